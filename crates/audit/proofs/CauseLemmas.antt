@@ -4,7 +4,8 @@ use Rattle.std.proofs.Common.{Option, Some, None, Result, Ok, Err, refl, sym, ap
 use Rattle.std.specs.Option.{option_map}
 use Rattle.std.proofs.lemmas.Bool.{ltb-true, ltb-false, lt-ltb, cases_Bool}
 use Rattle.std.proofs.lemmas.Option.{same_Some}
-use Rattle.farm_script.proofs.FieldLemmas.{choice, cond_is, off_by}
+use Rattle.line_program.proofs.FirstFaultyLemmas.{choice}
+use Rattle.farm_script.proofs.FieldLemmas.{cond_is, off_by}
 use Rattle.audit.specs.declared.mark.Mark.{Mark}
 use Rattle.audit.specs.declared.mark.Mark.TheVariants as mark
 use Rattle.audit.specs.declared.mark.Book.{Book}

@@ -8,8 +8,8 @@ use Rattle.std.proofs.lemmas.Option.{same_Some}
 use Rattle.dist_types.specs.Addr.{◌>>=◌}
 use Rattle.dist_types.proofs.AddrLemmas.{bind_some}
 use Rattle.line_program.specs.Pieces.{pieces, text_of}
-use Rattle.farm_script.specs.FirstFaulty.{size}
-use Rattle.farm_script.proofs.FieldLemmas.{choice}
+use Rattle.line_program.specs.FirstFaulty.{size}
+use Rattle.line_program.proofs.FirstFaultyLemmas.{choice}
 use Rattle.farm_script.proofs.WordLemmas.{bind_is}
 use Rattle.run_lines.specs.Lines.{run_line_at}
 use Rattle.run_lines.specs.declared.line.RunLine.{RunLine}

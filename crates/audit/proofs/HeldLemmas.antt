@@ -10,7 +10,8 @@ use Rattle.dist_types.specs.Addr.{same_addr}
 use Rattle.dist_types.specs.declared.ids.JobId.{JobId}
 use Rattle.dist_types.specs.declared.results.JobState.{JobState}
 use Rattle.dist_types.specs.declared.results.JobState.TheVariants.{Pending, Ready, Started, Complete}
-use Rattle.farm_script.proofs.FieldLemmas.{choice, cond_is, cond_off, off_by}
+use Rattle.line_program.proofs.FirstFaultyLemmas.{choice}
+use Rattle.farm_script.proofs.FieldLemmas.{cond_is, cond_off, off_by}
 use Rattle.farm_script.proofs.PlaceLemmas.{same_is, same_self}
 use Rattle.core_rules.specs.declared.entry.CoreEntry.{CoreEntry}
 use Rattle.core_rules.specs.declared.call.Call.{Call}

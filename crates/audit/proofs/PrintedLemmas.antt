@@ -8,7 +8,8 @@ use Rattle.std.proofs.lemmas.Cmp.{nat_eq_equiv}
 use Rattle.std.proofs.lemmas.List.{length-append, take-append-drop, drop_more, take_at, at_drop_all}
 use Rattle.dist_types.specs.Addr.{◌>>=◌}
 use Rattle.line_program.specs.Pieces.{pieces, text_of}
-use Rattle.farm_script.proofs.FieldLemmas.{choice, cond_is}
+use Rattle.line_program.proofs.FirstFaultyLemmas.{choice}
+use Rattle.farm_script.proofs.FieldLemmas.{cond_is}
 use Rattle.farm_script.proofs.VisibleLemmas.{both}
 use Rattle.farm_script.proofs.WordLemmas.{bind_is}
 use Rattle.run_lines.specs.Texts.{line_text, ended_text}

@@ -3,7 +3,7 @@ use Rattle.std.specs.Prelude.{◌≡◌, ℕ, ◌+◌, ◌≤◌, ◌⊎◌, Lis
 use Rattle.std.specs.List.{flat_map}
 use Rattle.line_program.specs.Limits.{max_run_bytes}
 use Rattle.line_program.specs.Pieces.{pieces, text_of}
-use Rattle.farm_script.specs.FirstFaulty.{size}
+use Rattle.line_program.specs.FirstFaulty.{size}
 use Rattle.run_lines.specs.Texts.{ended_text}
 use Rattle.run_lines.specs.Grammar.{LineFits, IsRunLine}
 use Rattle.run_lines.specs.declared.line.RunLine.{RunLine}

@@ -52,23 +52,6 @@ pub(crate) fn key(alloc: Global) -> QuotaTokens {
     QuotaTokens::of_key(Vec::new(alloc))
 }
 
-/// The reservation that was picked, if one was.
-fn reserved(picked: Picked) -> Option<Reservation> {
-    match picked {
-        Picked::Reserved(r) => Some(r),
-        Picked::NoRoom(_) => None,
-    }
-}
-
-/// The reservation that a client was granted, if it was.
-fn granted(picked: QuotaPicked) -> Option<Reservation> {
-    match picked {
-        QuotaPicked::Picked(picked) => reserved(picked),
-        QuotaPicked::Full { held: _, limit: _ } => None,
-        QuotaPicked::NoClient => None,
-    }
-}
-
 /// Whether a commit kept its job.
 fn is_kept(committed: Committed) -> bool {
     match committed {
@@ -83,9 +66,11 @@ impl Books for SchedState<QuotaTokens> {
         self.history().len()
     }
 
+    #[inline(always)]
     fn take(&mut self, now: u64, _client: &str) -> Option<Reservation> {
         match self.reserve(now) {
-            Ok(picked) => reserved(picked),
+            Ok(Picked::Reserved(r)) => Some(r),
+            Ok(Picked::NoRoom(_)) => None,
             Err(_) => None,
         }
     }
@@ -112,9 +97,13 @@ impl Books for QuotaState<QuotaTokens> {
         self.history().len()
     }
 
+    #[inline(always)]
     fn take(&mut self, now: u64, client: &str) -> Option<Reservation> {
         match self.reserve_for(now, client) {
-            Ok(picked) => granted(picked),
+            Ok(QuotaPicked::Picked(Picked::Reserved(r))) => Some(r),
+            Ok(QuotaPicked::Picked(Picked::NoRoom(_))) => None,
+            Ok(QuotaPicked::Full { held: _, limit: _ }) => None,
+            Ok(QuotaPicked::NoClient) => None,
             Err(_) => None,
         }
     }

@@ -2,6 +2,7 @@
 //!
 //!     bench lru CAPACITY CALL COUNT     a call of a metered cache
 //!     bench cache CALL DIR COUNT        a call of a cache of archives in a directory
+//!     bench disk CALL DIR COUNT         a call of a disk cache in a directory
 //!     bench core SERVERS EACH JOBS      jobs on a scheduler's books
 //!     bench quotas CLIENTS CALL COUNT   a call of a scheduler with quotas
 //!     bench storm COUNT                 the storm of so many events
@@ -14,6 +15,7 @@
 mod books;
 mod cache;
 mod desk;
+mod disk;
 mod lru;
 mod quotas;
 mod scheduler;
@@ -58,12 +60,13 @@ fn timed<R: Threads + Wait + Sync>(
     match what {
         "lru" => lru::timed(rt, words),
         "cache" => cache::timed(rt, words),
+        "disk" => disk::timed(rt, words),
         "core" => scheduler::timed(rt, words),
         "quotas" => quotas::timed(rt, words),
         "storm" => storm::timed(rt, words),
         "turns" => turns::timed(rt, threads, words),
         _ => {
-            eprintln!(rt; "bench: lru|cache|core|quotas|storm|turns|all ..")?;
+            eprintln!(rt; "bench: lru|cache|disk|core|quotas|storm|turns|all ..")?;
             Ok(ExitCode::from(2))
         }
     }

@@ -14,10 +14,10 @@ use Rattle.lru_disk_cache.specs.Entries.{trim}
 use Rattle.folders.specs.Files.{Files, front}
 use Rattle.folders.specs.Held.{Held, Became}
 use Rattle.lru_disk_cache.specs.Store.{IoCause}
-use Rattle.lru_disk_cache.specs.declared.error.Error.{Error}
-use Rattle.lru_disk_cache.specs.declared.error.Error.TheVariants as error
-use Rattle.folders.specs.declared.fault.FolderFault.{FolderFault}
-use Rattle.folders.specs.declared.fault.FolderFault.TheVariants as folder
+use Rattle.dist_types.specs.declared.cache_error.Error.{Error}
+use Rattle.dist_types.specs.declared.cache_error.Error.TheVariants as error
+use Rattle.dist_types.specs.declared.folder_fault.FolderFault.{FolderFault}
+use Rattle.dist_types.specs.declared.folder_fault.FolderFault.TheVariants as folder
 use Rattle.build_server.specs.Books.{ids, without_ids, is_listed, Fails}
 use Rattle.build_server.specs.Rules.{store_verdict, IsFrontOfDropped}
 use Rattle.build_server.specs.Stores.{IsStored, Stores, refusal}

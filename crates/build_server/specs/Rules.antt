@@ -15,7 +15,7 @@ use Rattle.toolchain_cache.specs.Archives.{Archives, id_of, archive_path, IsInSt
 use Rattle.toolchain_cache.specs.Archiving.{archive_verdict, with_archive, StoreFails}
 use Rattle.lru_disk_cache.specs.Disk.{dropped}
 use Rattle.lru_disk_cache.specs.Store.{Uncounted}
-use Rattle.lru_disk_cache.specs.declared.error.Error.{Error}
+use Rattle.dist_types.specs.declared.cache_error.Error.{Error}
 use Rattle.folders.specs.Changed.{ButUnder}
 use Rattle.lru_disk_cache.specs.Entries.{promoted_key}
 use Rattle.folders.specs.Files.{front, file_at}

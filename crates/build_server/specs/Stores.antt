@@ -4,8 +4,8 @@ use Rattle.dist_types.specs.declared.fault.Memory as want
 use Rattle.toolchain_cache.specs.Archives.{Archives, id_of}
 use Rattle.lru_disk_cache.specs.Entries.{promoted_key}
 use Rattle.folders.specs.Held.{Held, Holds}
-use Rattle.lru_disk_cache.specs.declared.error.Error.{Error}
-use Rattle.lru_disk_cache.specs.declared.error.Error.TheVariants as error
+use Rattle.dist_types.specs.declared.cache_error.Error.{Error}
+use Rattle.dist_types.specs.declared.cache_error.Error.TheVariants as error
 use Rattle.build_server.specs.Books.{without_ids, Fails}
 use Rattle.build_server.specs.Rules.{store_verdict, MayDrop, Comes, archives_after_submit, IsUnstored}
 use Rattle.build_server.specs.declared.fault.ServerFault.{ServerFault}

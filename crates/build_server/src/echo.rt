@@ -76,6 +76,8 @@ impl BuilderIncoming for EchoBuilder {
 
     ghost refusals = { λ _. 0 };
 
+    ghost answers = { λ _. None };
+
     /// What is echoed. Refused for want of memory alone.
     fn run_build(
         &mut self,

@@ -180,10 +180,11 @@ fn work<O: ServerOutgoing, B: BuilderIncoming>(
     held: RunHeld,
     order: &Order<'_>,
 ) -> Result<RunJobResult, ServerFault>
-    ensures { Works O.says order.now.job held
+    ensures works { Works O.says order.now.job held
         (record { command = order.now.command.now; outputs = order.now.outputs.now; inputs = order.now.inputs.now })
         (reports O.updated O.faults O.lent requester.old) (reports O.updated O.faults O.lent requester.new)
         (builder_of B.built B.refusals builder.old) (builder_of B.built B.refusals builder.new) result }
+    ensures answers { B.answers builder.new ≡ B.answers builder.old }
 {
     match held.build(builder, order.command, order.outputs, order.inputs) {
         Ok(done) => finish(requester, order.job, done),
@@ -202,11 +203,12 @@ fn proceed<K: Keeping, O: ServerOutgoing, B: BuilderIncoming>(
     started: UpdateJobStateResult,
     order: &Order<'_>,
 ) -> Result<RunJobResult, ServerFault>
-    ensures { Runs O.says order.now.job
+    ensures runs { Runs O.says order.now.job
         (record { command = order.now.command.now; outputs = order.now.outputs.now; inputs = order.now.inputs.now })
         (Ok started) (K.kept keeper.old) (K.kept keeper.new)
         (reports O.updated O.faults O.lent requester.old) (reports O.updated O.faults O.lent requester.new)
         (builder_of B.built B.refusals builder.old) (builder_of B.built B.refusals builder.new) result }
+    ensures answers { B.answers builder.new ≡ B.answers builder.old }
 {
     match keeper.begin_run(order.job, Ok(started)) {
         Ok(held) => work(requester, builder, held, order),
@@ -231,6 +233,7 @@ pub fn run_on<K: Keeping, O: ServerOutgoing, B: BuilderIncoming>(
         (K.kept keeper.old) (K.kept keeper.new)
         (reports O.updated O.faults O.lent requester.old) (reports O.updated O.faults O.lent requester.new)
         (builder_of B.built B.refusals builder.old) (builder_of B.built B.refusals builder.new) result }
+    ensures answers { B.answers builder.new ≡ B.answers builder.old }
 {
     let order = Order {
         job: job_id,

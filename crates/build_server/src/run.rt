@@ -117,6 +117,7 @@ impl RunHeld {
         ensures builds { Builds self
             (record { command = command.now; outputs = outputs.now; inputs = inputs.now })
             (builder_of B.built B.refusals builder.old) (builder_of B.built B.refusals builder.new) result }
+        ensures answers { B.answers builder.new ≡ B.answers builder.old }
     {
         let RunHeld { taken } = self;
         match taken {

@@ -134,7 +134,8 @@ pub trait ServerIncoming {
             (record { command = command.now; outputs = outputs.now; inputs = inputs.now }) None None
             (reports O.updated O.faults O.lent requester.old)
             (reports O.updated O.faults O.lent requester.new)
-            (builder_of B.built B.refusals builder.old) (builder_of B.built B.refusals builder.new) result };
+            (builder_of B.built B.refusals builder.old) (builder_of B.built B.refusals builder.new) result }
+        ensures answers { B.answers builder.new ≡ B.answers builder.old };
 }
 
 /// Each is its function over the keeper, which takes the lock for one call at a time.

@@ -5,3 +5,6 @@ pub mod LengthLemmas
 pub mod ClapLemmas
 pub mod EventLemmas
 pub mod KeyLemmas
+pub mod SpelledLemmas
+pub mod ParsedLemmas
+pub mod FileLemmas

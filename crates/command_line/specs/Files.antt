@@ -5,6 +5,10 @@ use Rattle.command_line.specs.declared.files.NamedFile.{NamedFile}
 use Rattle.command_line.specs.declared.files.MemFiles.{MemFiles}
 use Rattle.command_line.specs.declared.files.RealFiles.{RealFiles}
 
+-- how many bytes the longest file of the system that is read has
+abbrev pub max_file : ℕ
+max_file = 2147483648
+
 -- the bytes of the first file of that name, where there is one
 abbrev pub file_at : List ℕ → List NamedFile → Option (List ℕ)
 file_at name files = option_map (λ (f : NamedFile). f.bytes)

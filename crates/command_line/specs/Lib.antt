@@ -7,6 +7,8 @@ pub mod Reading
 pub mod Options
 pub mod Clap
 pub mod Asked
+pub mod Spelled
+pub mod Need
 pub mod Views
 pub mod Parsed
 pub mod Signed

@@ -1,6 +1,8 @@
 -- The command that words ask for, over the files that it reads.
 use Rattle.std.specs.Prelude.{◌≡◌, ℕ, List, [], Option, IfSome, Result, Ok, Err, codes}
 use Rattle.dist_types.specs.declared.addr.Addr.{Addr}
+use Rattle.dist_config.specs.declared.config.SchedulerConfig.{SchedulerConfig}
+use Rattle.dist_config.specs.declared.config.ServerConfig.{ServerConfig}
 use Rattle.dist_config.specs.declared.config.ServerAuth.{ServerAuth}
 use Rattle.dist_config.specs.declared.config.ServerAuth.TheVariants as auth
 use Rattle.line_program.specs.declared.fault.ConfigCause.{ConfigCause}
@@ -48,6 +50,17 @@ OverFiles (server path) files says = IfSome files says
 OverFiles (storm n) files says = says []
 OverFiles audit files says = says []
 
+-- the command is of the kind that is asked for, whatever the file says that it reads
+abbrev pub IsKind : Invocation → Command → Type 0
+IsKind farm command = Unit {0}
+IsKind (random n) command = Unit {0}
+IsKind (token_under address key) command = Unit {0}
+IsKind (token_of address path) command = (key : List ℕ) × (command ≡ Auth (JwtHS256ServerToken key address))
+IsKind (scheduler path) command = (config : SchedulerConfig) × (command ≡ Scheduler config)
+IsKind (server path) command = (config : ServerConfig) × (command ≡ Server config)
+IsKind (storm n) command = Unit {0}
+IsKind audit command = Unit {0}
+
 -- a command that reads a file
 abbrev pub ReadsFile : Invocation → Type 0
 ReadsFile farm = ⊥
@@ -59,11 +72,11 @@ ReadsFile (server path) = Unit {0}
 ReadsFile (storm n) = ⊥
 ReadsFile audit = ⊥
 
--- The answer is the command that is asked for over the files, and reading did not fail; or its file has a
--- fault, which is told; or memory ran out.
+-- The answer is the command that is asked for over the files, in each case of its kind, and reading did not
+-- fail; or its file has a fault, which is told; or memory ran out.
 abbrev pub IsParsed : Invocation → Result Command FarmFault → Option (List NamedFile) → ℕ → ℕ → Type 0
 IsParsed asked (Ok command) files before after = (after ≡ before)
-    × OverFiles asked files (λ told. command_in asked told ≡ Ok command)
+    × OverFiles asked files (λ told. command_in asked told ≡ Ok command) × IsKind asked command
 IsParsed asked (Err (BadConfig cause)) files before after = ReadsFile asked
     × IsFileFault (Cause cause) (command_in asked) files before after
 IsParsed asked (Err Memory) files before after = after ≡ before

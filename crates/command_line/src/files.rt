@@ -1,12 +1,12 @@
 //! Files by name: the trait, the files in memory, and those of the system.
-ghost use Rattle.std.specs.Prelude.{◌≡◌, ◌≢◌, ◌≤◌, ◌↔◌, ◌⊎◌, List, ℕ, Option, Some, None, Err, IfOk, IfSome};
-ghost use Rattle.std.specs.Prelude.{OnOk, length, option_map};
+ghost use Rattle.std.specs.Prelude.{◌≡◌, ◌≢◌, ◌<◌, ◌≤◌, ◌↔◌, ◌⊎◌, List, ℕ, Option, Some, None, Err, IfOk, IfSome};
+ghost use Rattle.std.specs.Prelude.{OnOk, OnErr, length, option_map};
 ghost use Rattle.dist_types.specs.Cause.{Rose, counted};
-ghost use Rattle.command_line.specs.Files.{file_at, real_files, real_files_faults};
+ghost use Rattle.command_line.specs.Files.{file_at, max_file, real_files, real_files_faults};
 ghost use Rattle.command_line.specs.declared.files.NamedFile.{NamedFile};
 
 use dist_types::fault::raise;
-use dist_types::source::{ReadError, StdSource, read_whole};
+use dist_types::source::{ReadError, Source, StdSource, read_whole};
 use dist_types::text::{Bytes, Text};
 use std::alloc::Global;
 use std::fs;
@@ -183,19 +183,34 @@ fn open_fault(kind: ErrorKind) -> FileFault
     FileFault::Failed
 }
 
-/// The bytes of a file of the system. One past 2,147,483,648 bytes is a fault.
-fn contents<S: fs::Files>(alloc: Global, system: &S, name: &str) -> Result<Vec<u8>, FileFault>
-    ensures short { IfOk result (λ bytes. length bytes.items ≤ 2147483648) }
+/// The content of an open file: all bytes that its source has left, which are 2,147,483,648 at most. One byte
+/// more is a fault.
+#[tactic(auto, using(crate::proofs::FileLemmas::all_read, crate::proofs::FileLemmas::no_longer, crate::proofs::FileLemmas::longer, crate::proofs::FileLemmas::whatever))]
+pub fn contents<S: Source>(alloc: Global, source: &mut S) -> Result<Vec<u8>, FileFault>
+    ensures content { IfOk result (λ bytes. IfSome (S.left source.old) (λ told. told ≡ bytes.items)) }
+    ensures short { IfOk result (λ bytes. length bytes.items ≤ max_file) }
+    // Up to the limit it is read, where reading does not fail and memory is left; past it it is not.
+    ensures fits { IfSome (S.left source.old) (λ told. length told ≤ max_file
+        → OnErr result ((result ≡ Err FileFault.Memory) ⊎ Rose (S.faults source.old) (S.faults source.new))) }
+    ensures past { IfSome (S.left source.old) (λ told. max_file < length told
+        → (result ≡ Err FileFault.Failed) ⊎ (result ≡ Err FileFault.Memory)) }
+    ensures opened { result ≢ Err FileFault.Missing }
 {
-    let mut source = match fs::open(system, name) {
-        Ok(file) => StdSource::new(file),
-        Err(e) => return Err(open_fault(e.kind())),
-    };
-    match read_whole(alloc, &mut source, MAX_FILE) {
+    match read_whole(alloc, source, MAX_FILE) {
         Ok(bytes) => Ok(bytes),
         Err(ReadError::Memory) => Err(FileFault::Memory),
         Err(ReadError::Failed) => Err(FileFault::Failed),
         Err(ReadError::TooLong) => Err(FileFault::Failed),
+    }
+}
+
+/// The content of a file of the system.
+fn contents_of<S: fs::Files>(alloc: Global, system: &S, name: &str) -> Result<Vec<u8>, FileFault>
+    ensures short { IfOk result (λ bytes. length bytes.items ≤ max_file) }
+{
+    match fs::open(system, name) {
+        Ok(file) => contents(alloc, &mut StdSource::new(file)),
+        Err(e) => Err(open_fault(e.kind())),
     }
 }
 
@@ -220,9 +235,9 @@ impl<S: fs::Files + Drop> Files for RealFiles<S> {
 
         ensures counted { result ≡ Err FileFault.Failed
             → real_files_faults self.new ≡ counted (real_files_faults self.old) }
-        ensures short { IfOk result (λ bytes. length bytes.items ≤ 2147483648) }
+        ensures short { IfOk result (λ bytes. length bytes.items ≤ max_file) }
     {
-        match contents(self.alloc, &self.system, name) {
+        match contents_of(self.alloc, &self.system, name) {
             Ok(bytes) => Ok(bytes),
             Err(FileFault::Missing) => Err(FileFault::Missing),
             Err(FileFault::Memory) => Err(FileFault::Memory),

@@ -1,10 +1,25 @@
-//! What holds of every configuration file.
-ghost use Rattle.std.specs.Prelude.{◌≡◌, ℕ, List, true, false, codes};
+//! What holds of all option words, and of every configuration file.
+ghost use Rattle.std.specs.Prelude.{◌≡◌, ℕ, List, Some, true, false, codes, IsPermutation};
 ghost use Rattle.toml.specs.Data.{Members, get_member};
 ghost use Rattle.command_line.specs.Keys.{Tells, scheduler_bad, server_bad, IsRulesAt};
 ghost use Rattle.command_line.specs.Profile.{scheduler_in, server_in, scheduler_keys, server_keys};
+ghost use Rattle.command_line.specs.Options.{Pairs, Said, options_in, said_by};
+ghost use Rattle.command_line.specs.Spelled.{Spells, AskAlike};
 ghost use Rattle.command_line.specs.Unknown.{is_known, least_unknown, IsLeast};
 ghost use Rattle.command_line.specs.Values.{rules_at};
+
+/// Words are read as options exactly where they spell some, each once, in one of its two spellings, and then
+/// they say those options with those values. In whatever order the options stand, and in whichever spelling
+/// each, the same is said and asked for.
+pub fn options_stand_in_any_order()
+    ensures said { (pairs : Pairs) (words : List (List ℕ)) → Spells pairs words
+        → options_in words ≡ Some (said_by pairs) }
+    ensures spelled { (words : List (List ℕ)) (said : Said) → options_in words ≡ Some said
+        → (pairs : Pairs) × Spells pairs words × (said ≡ said_by pairs) }
+    ensures order { (pairs others : Pairs) (words other_words : List (List ℕ)) → IsPermutation pairs others
+        → Spells pairs words → Spells others other_words
+        → (options_in words ≡ options_in other_words) × AskAlike words other_words }
+{}
 
 /// A file says a configuration exactly where no key of it is unknown and each key has its value. Else one key
 /// is told: the least unknown one in byte order, and where there is none the first in the order of the profile

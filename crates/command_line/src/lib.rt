@@ -21,6 +21,7 @@ pub mod files;
 pub mod laws;
 pub mod line;
 pub mod look_up;
+pub mod need;
 pub mod option_words;
 pub mod parse;
 pub mod read;

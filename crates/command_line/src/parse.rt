@@ -60,6 +60,7 @@ fn signed(alloc: Global, address: Addr, config: SchedulerConfig) -> Result<Comma
     }
 }
 
+#[tactic(auto, using(crate::proofs::ParsedLemmas::token_kind))]
 fn token_of<D: Files>(
     alloc: Global,
     files: &mut D,
@@ -76,6 +77,7 @@ fn token_of<D: Files>(
     }
 }
 
+#[tactic(auto, using(crate::proofs::ParsedLemmas::scheduler_kind))]
 fn scheduler_of<D: Files>(alloc: Global, files: &mut D, path: &str) -> Result<Command, FarmFault>
     ensures parsed { IsParsed (asks_scheduler path.now) result (D.files files.old) (D.faults files.old)
         (D.faults files.new) }
@@ -87,6 +89,7 @@ fn scheduler_of<D: Files>(alloc: Global, files: &mut D, path: &str) -> Result<Co
     }
 }
 
+#[tactic(auto, using(crate::proofs::ParsedLemmas::server_kind))]
 fn server_of<D: Files>(alloc: Global, files: &mut D, path: &str) -> Result<Command, FarmFault>
     ensures parsed { IsParsed (asks_server path.now) result (D.files files.old) (D.faults files.old)
         (D.faults files.new) }

@@ -209,21 +209,30 @@ fn reaped(
         .collect(alloc)
 }
 
-/// The jobs that a heartbeat with this nonce reaps, where that registration stands at its address.
+/// A heartbeat: at which moment, in milliseconds, of which server, and what it says.
+#[derive(Drop)]
+pub(crate) struct Heartbeat {
+    pub(crate) moment: u64,
+    pub(crate) server: ServerId,
+    pub(crate) nonce: ServerNonce,
+    pub(crate) cpus: u64,
+    pub(crate) key: Bytes,
+}
+
+/// The jobs that a heartbeat reaps, where the registration with its nonce stands at its address.
 fn reaped_there(
     alloc: Global,
     held: &[HeldRow],
     there: &Option<ServerRow>,
-    now: u64,
-    nonce: ServerNonce,
     rules: Rules,
+    beat: &Heartbeat,
 ) -> Result<Vec<JobId>, AllocError>
-    ensures { IfOk result (λ v. v.items ≡ reaped_by rules now nonce held.now there.now) }
+    ensures { IfOk result (λ v. v.items ≡ reaped_by rules beat.now.moment beat.now.nonce held.now there.now) }
 {
     match there {
         Some(row) => {
-            if row.nonce == nonce {
-                reaped(alloc, held, row.reg, now, rules)
+            if row.nonce == beat.nonce {
+                reaped(alloc, held, row.reg, beat.moment, rules)
             } else {
                 Ok(Vec::new(alloc))
             }
@@ -238,18 +247,22 @@ pub(crate) fn beat(
     rows: &[ServerRow],
     held: &[HeldRow],
     rules: Rules,
-    now: u64,
-    server: ServerId,
-    nonce: ServerNonce,
-    cpus: u64,
-    key: Bytes,
+    beat: Heartbeat,
 ) -> Result<CoreEntry, AllocError>
-    ensures { IfOk result (λ e. e ≡ beat_over rules rows.now held.now now server nonce cpus key) }
+    ensures { IfOk result (λ e. e ≡
+        beat_over rules rows.now held.now beat.moment beat.server beat.nonce beat.cpus beat.key) }
 {
-    let pruned = pruned_numbers(alloc, rows, now)?;
-    let rest = left(alloc, rows, now)?;
-    let there = row_at(&rest, server);
-    let reaped = reaped_there(alloc, held, &there, now, nonce, rules)?;
+    let pruned = pruned_numbers(alloc, rows, beat.moment)?;
+    let rest = left(alloc, rows, beat.moment)?;
+    let there = row_at(&rest, beat.server);
+    let reaped = reaped_there(alloc, held, &there, rules, &beat)?;
+    let Heartbeat {
+        moment: now,
+        server,
+        nonce,
+        cpus,
+        key,
+    } = beat;
     let kind = CoreKind::Beat {
         server,
         nonce,

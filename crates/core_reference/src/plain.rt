@@ -8,7 +8,7 @@ ghost use Rattle.core_rules.specs.Rule.{rule, is_initial, IsCall, place_at};
 ghost use Rattle.dist_types.specs.declared.rules.Rules.TheVariants.{Two};
 ghost use Rattle.core_reference.specs.Plain.{has_among, IsEntryOf};
 
-use crate::choice;
+use crate::choice::{self, Heartbeat};
 use crate::entries::{address_in, made_in, reg_of};
 use crate::jobs::{Which, is_among, open_jobs, reservations};
 use crate::servers::servers;
@@ -159,11 +159,14 @@ fn made(
         } => {
             let rows = servers(alloc, log)?;
             let held = held(alloc, log)?;
-            let key = key.copy(alloc)?;
-            let rules = start.rules;
-            choice::beat(
-                alloc, &rows, &held, rules, *now, *server, *nonce, *cpus, key,
-            )
+            let beat = Heartbeat {
+                moment: *now,
+                server: *server,
+                nonce: *nonce,
+                cpus: *cpus,
+                key: key.copy(alloc)?,
+            };
+            choice::beat(alloc, &rows, &held, start.rules, beat)
         }
         Call::Update {
             now,

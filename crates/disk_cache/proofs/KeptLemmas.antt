@@ -1,17 +1,22 @@
 -- What an opening keeps of the archives that it would list, step by step.
-use Rattle.std.proofs.Common.{◌≡◌, ℕ, nat_le, List, [], ◌∷◌, ◌++◌, filter, Option, ap, subst, ◌∙◌}
-use Rattle.folders.specs.Files.{Files, file_at, front}
-use Rattle.folders.specs.Held.{Became}
+use Rattle.std.proofs.Common.{◌≡◌, ℕ, nat_le, List, [], ◌∷◌, ◌++◌, filter, map, Bool, true, false, ◌||◌}
+use Rattle.std.proofs.Common.{Option, None, refl, sym, ap, subst, ◌∙◌, true≢false}
+use Rattle.std.specs.List.{list_any}
+use Rattle.std.specs.Str.{bytes_eq}
+use Rattle.std.proofs.Math.Seq.{take-append_seam}
+use Rattle.std.proofs.lemmas.Slice.Eq.{bytes_eq-Decides}
+use Rattle.folders.specs.Files.{Files, file_at, front, is_behind}
+use Rattle.folders.specs.Held.{Held, Holds, Became}
 use Rattle.folders.specs.Changed.{RemovedUnder}
-use Rattle.folders.proofs.Became.{became_map, became_then}
+use Rattle.folders.proofs.Became.{became_map, became_then, became_from}
 use Rattle.folders.proofs.Distinct.{apart}
 use Rattle.lru_disk_cache.specs.Entries.{trim}
-use Rattle.toolchain_cache.specs.Archives.{Archives, archive_key, opened_archives}
+use Rattle.toolchain_cache.specs.Archives.{Archives, archive_key, archive_path, opened_archives, paths_under}
 use Rattle.toolchain_cache.specs.Stored.{KeepsArchives, KeepsListed}
 use Rattle.toolchain_cache.proofs.Sparing.{all_then}
 use Rattle.disk_cache.specs.declared.names.Names.{Names}
 use Rattle.disk_cache.specs.Names.{AreNames, cache_path, temp_dir, temp_path, weak_path}
-use Rattle.disk_cache.specs.Opening.{SameArchives}
+use Rattle.disk_cache.specs.Opening.{SameArchives, HasOnly}
 use Rattle.disk_cache.specs.Saving.{ButTwo}
 use Rattle.disk_cache.proofs.LeftLemmas.{both}
 use Rattle.disk_cache.proofs.NameLemmas.{cache_apart_temp, cache_beside_temp, cache_beside_weak}
@@ -83,3 +88,73 @@ module _ (n : Names) (dir path : List ℕ) (capacity : ℕ) (old mid : Option Fi
         (λ f g h a b. all_then (cache_path n.dir) (opened_archives (cache_path n.dir) capacity f) f g h a
         (below_archives (cache_path n.dir) (opened_archives (cache_path n.dir) capacity f) g h
         (two_below n.dir g h b))) in_cache loaded)
+
+-- ---- what stands below the cache
+
+any_map : {A B : Type 0} (p : B → Bool) (f : A → B) (xs : List A) → list_any p (map f xs) ≡ list_any
+    (λ x. p (f x)) xs
+any_map p f [] = refl
+any_map p f (x ∷ xs) = ap (λ (b : Bool). p (f x) || b) (any_map p f xs)
+
+abbrev behind : List ℕ → Files → List (List ℕ)
+behind begun files = map (λ f. f.0) (filter (λ f. is_behind begun f.0) files)
+
+rest_unlisted : (begun q : List ℕ) (f : List ℕ × List ℕ) (fs : Files) (b : Bool) → is_behind begun f.0 ≡ b
+    → bytes_eq q f.0 ≡ false → list_any (bytes_eq q) (behind begun (f ∷ fs)) ≡ false
+    → list_any (bytes_eq q) (behind begun fs) ≡ false
+rest_unlisted begun q f fs true is other h = rw (is, other) at h
+rest_unlisted begun q f fs false is other h = rw is at h
+
+first_listed : (begun q : List ℕ) (f : List ℕ × List ℕ) (fs : Files) → is_behind begun q ≡ true
+    → bytes_eq q f.0 ≡ true → list_any (bytes_eq q) (behind begun (f ∷ fs)) ≡ true
+first_listed begun q f fs within same =
+    let is : is_behind begun f.0 ≡ true =
+    subst (λ (p : List ℕ). is_behind begun p ≡ true) ((bytes_eq-Decides q f.0).0 same) within in
+    rw (is, same) refl
+
+not_first : (q : List ℕ) (f : List ℕ × List ℕ) (fs : Files) → bytes_eq q f.0 ≡ false
+    → file_at (f ∷ fs) q ≡ file_at fs q
+not_first q f fs other = rw other refl
+
+unlisted_by : (begun q : List ℕ) (f : List ℕ × List ℕ) (fs : Files) (b : Bool) → bytes_eq q f.0 ≡ b
+    → is_behind begun q ≡ true → (list_any (bytes_eq q) (behind begun fs) ≡ false → file_at fs q ≡ None)
+    → list_any (bytes_eq q) (behind begun (f ∷ fs)) ≡ false → file_at (f ∷ fs) q ≡ None
+unlisted_by begun q f fs true is within later h =
+    absurd (true≢false (sym (first_listed begun q f fs within is) ∙ h))
+unlisted_by begun q f fs false is within later h =
+    not_first q f fs is ∙ later (rest_unlisted begun q f fs (is_behind begun f.0) refl is h)
+
+-- a path behind another that none of the files behind it has is no file's
+unlisted : (begun q : List ℕ) (files : Files) → is_behind begun q ≡ true
+    → list_any (bytes_eq q) (behind begun files) ≡ false → file_at files q ≡ None
+unlisted begun q [] within h = refl
+unlisted begun q (f ∷ fs) within h =
+    unlisted_by begun q f fs (bytes_eq q f.0) refl within (unlisted begun q fs within) h
+
+cleared_only : (path : List ℕ) (archives : Archives) (files : Files)
+    → paths_under path files ≡ map (λ a. archive_path path a.0) archives → HasOnly path archives files
+cleared_only path archives files cleared = λ k none.
+    let q : List ℕ = front path ++ k in
+    let within : is_behind (front path) q ≡ true =
+    ap (λ (t : List ℕ). bytes_eq (front path) t) (take-append_seam (front path) k)
+    ∙ (bytes_eq-Decides (front path) (front path)).1 refl in
+    unlisted (front path) q files within
+    (ap (list_any (bytes_eq q)) cleared ∙ any_map (bytes_eq q) (λ a. archive_path path a.0) archives ∙ none)
+
+-- an opening leaves no file below the cache but those of the archives that it lists
+pub loaded_only : (n : Names) (dir path : List ℕ) (archives later : Archives) (opened new : Held)
+    → n.dir ≡ dir → AreNames n → path ≡ n.cache → later ≡ archives
+    → Holds opened (λ files. paths_under path files ≡ map (λ a. archive_path path a.0) archives)
+    → Became (ButTwo (temp_path n.dir) (weak_path n.dir)) opened.files new.files
+    → Holds new (HasOnly (cache_path dir) later)
+loaded_only n dir path archives later opened new at named is same cleared others =
+    subst (λ (d : List ℕ). Holds new (HasOnly (cache_path d) later)) at
+    (subst (λ (l : Archives). Holds new (HasOnly (cache_path n.dir) l)) (sym same)
+    (λ files told.
+    let w = became_from (ButTwo (temp_path n.dir) (weak_path n.dir)) opened.files new.files files others
+    told in
+    let here : paths_under (cache_path n.dir) w.0 ≡ map (λ a. archive_path (cache_path n.dir) a.0) archives =
+    subst (λ (p : List ℕ). paths_under p w.0 ≡ map (λ a. archive_path p a.0) archives)
+    (is ∙ named.cache_is) (cleared w.0 w.1) in
+    λ k none. two_below n.dir w.0 files w.2 k
+    ∙ cleared_only (cache_path n.dir) archives w.0 here k none))

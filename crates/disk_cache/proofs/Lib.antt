@@ -8,3 +8,4 @@ pub mod OthersLemmas
 pub mod PutLemmas
 pub mod SaveLemmas
 pub mod ShelfLemmas
+pub mod StepLemmas

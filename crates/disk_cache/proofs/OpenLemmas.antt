@@ -11,18 +11,18 @@ use Rattle.folders.specs.Changed.{ButUnder}
 use Rattle.lru_disk_cache.specs.Entries.{trim}
 use Rattle.toolchain_cache.specs.Archives.{Archives, opened_archives}
 use Rattle.lru_disk_cache.specs.Store.{IoCause}
-use Rattle.lru_disk_cache.specs.declared.error.Error.TheVariants.{Io}
-use Rattle.folders.specs.declared.fault.FolderFault.{FolderFault}
-use Rattle.folders.specs.declared.fault.FolderFault.TheVariants.{Missing, Failed}
-use Rattle.folders.specs.declared.fault.FolderFault.TheVariants.{Memory as OutOfMemory}
+use Rattle.dist_types.specs.declared.cache_error.Error.TheVariants.{Io}
+use Rattle.dist_types.specs.declared.folder_fault.FolderFault.{FolderFault}
+use Rattle.dist_types.specs.declared.folder_fault.FolderFault.TheVariants.{Missing, Failed}
+use Rattle.dist_types.specs.declared.folder_fault.FolderFault.TheVariants.{Memory as OutOfMemory}
 use Rattle.folders.proofs.Distinct.{apart}
 use Rattle.folders.proofs.Became.{became_then, became_from}
 use Rattle.disk_cache.specs.declared.config.DistToolchainConfig.{DistToolchainConfig}
 use Rattle.disk_cache.specs.declared.names.Names.{Names}
-use Rattle.disk_cache.specs.declared.toolchain_error.ToolchainError.{ToolchainError}
-use Rattle.disk_cache.specs.declared.toolchain_error.ToolchainError.TheVariants.{Cache, DuplicateConfig}
-use Rattle.disk_cache.specs.declared.toolchain_error.ToolchainError.TheVariants.{ConflictConfig, BadWeakMap}
-use Rattle.disk_cache.specs.declared.toolchain_error.ToolchainError.TheVariants.{Memory}
+use Rattle.dist_types.specs.declared.toolchain_error.ToolchainError.{ToolchainError}
+use Rattle.dist_types.specs.declared.toolchain_error.ToolchainError.TheVariants.{Cache, DuplicateConfig}
+use Rattle.dist_types.specs.declared.toolchain_error.ToolchainError.TheVariants.{ConflictConfig, BadWeakMap}
+use Rattle.dist_types.specs.declared.toolchain_error.ToolchainError.TheVariants.{Memory}
 use Rattle.disk_cache.specs.Configs.{judged_from, config_verdict, config_of, compiler_of, says_no_dist}
 use Rattle.disk_cache.specs.Configs.{beside, and_next}
 use Rattle.disk_cache.specs.Names.{AreNames, IsBeside, cache_path, weak_path, temp_dir, temp_path}

@@ -8,7 +8,7 @@ use Rattle.disk_cache.specs.declared.config.CustomToolchain.{CustomToolchain}
 use Rattle.disk_cache.specs.declared.config.DistToolchainConfig.{DistToolchainConfig}
 use Rattle.disk_cache.specs.declared.config.DistToolchainConfig.TheVariants.{PathOverride, NoDist}
 use Rattle.disk_cache.specs.declared.custom.Taken.{Taken}
-use Rattle.disk_cache.specs.declared.toolchain_error.ToolchainError.TheVariants.{Memory}
+use Rattle.dist_types.specs.declared.toolchain_error.ToolchainError.TheVariants.{Memory}
 use Rattle.disk_cache.specs.Configs.{IsChoice}
 use Rattle.disk_cache.specs.Custom.{Takes, taken_of}
 use Rattle.disk_cache.specs.Putting.{GetsArchive, PutsBy}

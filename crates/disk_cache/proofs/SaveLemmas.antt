@@ -6,8 +6,8 @@ use Rattle.std.specs.Str.{bytes_eq}
 use Rattle.dist_types.specs.Cause.{Rose}
 use Rattle.folders.specs.Files.{Files, file_at, put, put_found, without, moved, PartWritten, DoneOrNot}
 use Rattle.folders.specs.Held.{Held, Holds, Lacks, Never, Became, Changes}
-use Rattle.folders.specs.declared.fault.FolderFault.{FolderFault}
-use Rattle.folders.specs.declared.fault.FolderFault.TheVariants.{Missing, Failed, Memory}
+use Rattle.dist_types.specs.declared.folder_fault.FolderFault.{FolderFault}
+use Rattle.dist_types.specs.declared.folder_fault.FolderFault.TheVariants.{Missing, Failed, Memory}
 use Rattle.folders.proofs.Became.{became_of, became_then, became_from}
 use Rattle.folders.proofs.Distinct.{apart as apart_of}
 use Rattle.folders.proofs.Lookups.{without_same, put_same, put_other, part_other, moved_other}

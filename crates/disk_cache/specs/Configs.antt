@@ -7,9 +7,9 @@ use Rattle.disk_cache.specs.declared.config.Choice.{Choice}
 use Rattle.disk_cache.specs.declared.config.Choice.TheVariants.{Nothing, Disabled, Archive}
 use Rattle.disk_cache.specs.declared.config.DistToolchainConfig.{DistToolchainConfig}
 use Rattle.disk_cache.specs.declared.config.DistToolchainConfig.TheVariants.{PathOverride, NoDist}
-use Rattle.disk_cache.specs.declared.toolchain_error.ToolchainError.{ToolchainError}
-use Rattle.disk_cache.specs.declared.toolchain_error.ToolchainError.TheVariants.{DuplicateConfig}
-use Rattle.disk_cache.specs.declared.toolchain_error.ToolchainError.TheVariants.{ConflictConfig}
+use Rattle.dist_types.specs.declared.toolchain_error.ToolchainError.{ToolchainError}
+use Rattle.dist_types.specs.declared.toolchain_error.ToolchainError.TheVariants.{DuplicateConfig}
+use Rattle.dist_types.specs.declared.toolchain_error.ToolchainError.TheVariants.{ConflictConfig}
 
 -- the compiler that it is of
 abbrev pub compiler_of : DistToolchainConfig → List ℕ

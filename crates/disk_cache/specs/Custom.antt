@@ -6,14 +6,14 @@ use Rattle.std.specs.declared.alloc.Global.{Global}
 use Rattle.folders.specs.Files.{file_at, Same}
 use Rattle.folders.specs.Held.{Holds, Became}
 use Rattle.toolchain_cache.specs.Archives.{id_of}
-use Rattle.lru_disk_cache.specs.declared.error.Error.TheVariants.{Io}
-use Rattle.folders.specs.declared.fault.FolderFault.TheVariants.{Memory as OutOfMemory}
+use Rattle.dist_types.specs.declared.cache_error.Error.TheVariants.{Io}
+use Rattle.dist_types.specs.declared.folder_fault.FolderFault.TheVariants.{Memory as OutOfMemory}
 use Rattle.dist_types.specs.declared.fault.Memory.{Memory as OutOfMem}
 use Rattle.disk_cache.specs.declared.config.CustomToolchain.{CustomToolchain}
 use Rattle.disk_cache.specs.declared.custom.Custom.{Custom}
 use Rattle.disk_cache.specs.declared.custom.Taken.{Taken}
-use Rattle.disk_cache.specs.declared.toolchain_error.ToolchainError.{ToolchainError}
-use Rattle.disk_cache.specs.declared.toolchain_error.ToolchainError.TheVariants.{Cache, Memory}
+use Rattle.dist_types.specs.declared.toolchain_error.ToolchainError.{ToolchainError}
+use Rattle.dist_types.specs.declared.toolchain_error.ToolchainError.TheVariants.{Cache, Memory}
 use Rattle.disk_cache.specs.Toolchains.{Toolchains, with_state, with_held, ReadFails}
 
 -- what was taken for a compiler

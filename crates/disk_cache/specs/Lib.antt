@@ -1,5 +1,6 @@
 pub mod Configs
 pub mod Custom
+pub mod InStep
 pub mod Names
 pub mod Opening
 pub mod Others

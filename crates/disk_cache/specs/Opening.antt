@@ -1,16 +1,17 @@
 -- What an opening of a client's toolchains finds, and why it fails.
 use Rattle.std.specs.Prelude.{◌≡◌, ℕ, false, List, ◌++◌, None, Some, IsSome, Err}
+use Rattle.std.specs.List.{list_any}
 use Rattle.std.specs.Str.{bytes_eq}
 use Rattle.folders.specs.Files.{Files, file_at, front}
 use Rattle.folders.specs.Held.{Held, Holds}
-use Rattle.toolchain_cache.specs.Archives.{archives_in}
+use Rattle.toolchain_cache.specs.Archives.{Archives, archives_in, archive_path}
 use Rattle.lru_disk_cache.specs.Store.{IoCause}
-use Rattle.lru_disk_cache.specs.declared.error.Error.TheVariants.{Io}
+use Rattle.dist_types.specs.declared.cache_error.Error.TheVariants.{Io}
 use Rattle.disk_cache.specs.declared.config.DistToolchainConfig.{DistToolchainConfig}
-use Rattle.disk_cache.specs.declared.toolchain_error.ToolchainError.{ToolchainError}
-use Rattle.disk_cache.specs.declared.toolchain_error.ToolchainError.TheVariants.{Cache, BadWeakMap}
-use Rattle.disk_cache.specs.declared.toolchain_error.ToolchainError.TheVariants.{DuplicateConfig}
-use Rattle.disk_cache.specs.declared.toolchain_error.ToolchainError.TheVariants.{ConflictConfig, Memory}
+use Rattle.dist_types.specs.declared.toolchain_error.ToolchainError.{ToolchainError}
+use Rattle.dist_types.specs.declared.toolchain_error.ToolchainError.TheVariants.{Cache, BadWeakMap}
+use Rattle.dist_types.specs.declared.toolchain_error.ToolchainError.TheVariants.{DuplicateConfig}
+use Rattle.dist_types.specs.declared.toolchain_error.ToolchainError.TheVariants.{ConflictConfig, Memory}
 use Rattle.disk_cache.specs.Configs.{config_verdict}
 use Rattle.disk_cache.specs.Names.{IsBeside, cache_path, temp_dir, temp_path, weak_path}
 use Rattle.disk_cache.specs.Saving.{OldOrBegun}
@@ -19,6 +20,12 @@ use Rattle.disk_cache.specs.WeakMaps.{weak_map_at}
 -- no file stands below a directory
 abbrev pub IsEmpty : List ℕ → Files → Type 0
 IsEmpty under files = (k : List ℕ) → file_at files (front under ++ k) ≡ None
+
+-- no file stands below a path but those of these archives
+abbrev pub HasOnly : List ℕ → Archives → Files → Type 0
+HasOnly path archives files = (k : List ℕ)
+    → list_any (λ a. bytes_eq (front path ++ k) (archive_path path a.0)) archives ≡ false
+    → file_at files (front path ++ k) ≡ None
 
 -- no path below one is below the other
 abbrev pub AreApart : List ℕ → List ℕ → Type 0

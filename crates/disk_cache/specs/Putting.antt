@@ -1,6 +1,6 @@
 -- Finding a toolchain, and putting one.
 use Rattle.std.specs.Prelude.{◌≡◌, ◌⊎◌, ℕ, List, [], length, Option, Some, None, option_map, IsSome, Result}
-use Rattle.std.specs.Prelude.{Ok, Err, String, Vec, string_bytes}
+use Rattle.std.specs.Prelude.{Ok, Err, OnOk, String, Vec, string_bytes}
 use Rattle.std.specs.Map.{lookup}
 use Rattle.std.specs.Str.{bytes_eq}
 use Rattle.std.specs.declared.alloc.Global.{Global}
@@ -12,9 +12,10 @@ use Rattle.toolchain_cache.specs.Archives.{id_of, archive_path}
 use Rattle.toolchain_cache.specs.Archiving.{with_archive, StoreFails}
 use Rattle.lru_disk_cache.specs.Entries.{promoted_key}
 use Rattle.lru_disk_cache.specs.Store.{IoCause, Uncounted}
-use Rattle.lru_disk_cache.specs.declared.error.Error.{Error}
-use Rattle.lru_disk_cache.specs.declared.error.Error.TheVariants.{Io, FileNotInCache}
-use Rattle.folders.specs.declared.fault.FolderFault.TheVariants.{Missing}
+use Rattle.lru_disk_cache.specs.Spoiling.{MaySpoil}
+use Rattle.dist_types.specs.declared.cache_error.Error.{Error}
+use Rattle.dist_types.specs.declared.cache_error.Error.TheVariants.{Io, FileNotInCache}
+use Rattle.dist_types.specs.declared.folder_fault.FolderFault.TheVariants.{Missing}
 use Rattle.disk_cache.specs.declared.config.DistToolchainConfig.{DistToolchainConfig}
 use Rattle.disk_cache.specs.declared.config.DistToolchainConfig.TheVariants.{PathOverride, NoDist}
 use Rattle.disk_cache.specs.declared.config.CustomToolchain.{CustomToolchain}
@@ -22,13 +23,14 @@ use Rattle.disk_cache.specs.declared.custom.Custom.{Custom}
 use Rattle.disk_cache.specs.declared.custom.Placed.{Placed}
 use Rattle.disk_cache.specs.declared.custom.Placed.TheVariants.{Alone, Configured}
 use Rattle.disk_cache.specs.declared.custom.Taken.{Taken}
-use Rattle.disk_cache.specs.declared.toolchain_error.ToolchainError.{ToolchainError}
-use Rattle.disk_cache.specs.declared.toolchain_error.ToolchainError.TheVariants.{Cache, Disabled}
-use Rattle.disk_cache.specs.declared.toolchain_error.ToolchainError.TheVariants.{PackagerFailed, Memory}
+use Rattle.dist_types.specs.declared.toolchain_error.ToolchainError.{ToolchainError}
+use Rattle.dist_types.specs.declared.toolchain_error.ToolchainError.TheVariants.{Cache, Disabled}
+use Rattle.dist_types.specs.declared.toolchain_error.ToolchainError.TheVariants.{PackagerFailed, Memory}
 use Rattle.disk_cache.specs.Configs.{config_of}
 use Rattle.disk_cache.specs.Custom.{Takes, Unread, taken_of, last_taken}
+use Rattle.disk_cache.specs.InStep.{KeepsStep}
 use Rattle.disk_cache.specs.Names.{cache_path}
-use Rattle.disk_cache.specs.Toolchains.{Toolchains, with_state, with_held, toolchain_error}
+use Rattle.disk_cache.specs.Toolchains.{Toolchains, with_state, with_held, with_spoiled, toolchain_error}
 use Rattle.disk_cache.specs.WeakMaps.{recorded_id, with_recorded, weak_map_at}
 
 -- ---- answers, seen without what they are kept in
@@ -79,10 +81,10 @@ Unfound id Memory old new =
     × (new.held.faults ≡ old.held.faults)
 Unfound id other old new = ⊥
 
--- the archive of an id in the cache: none exactly where it is not listed
+-- the archive of an id in the cache, which keeps the list in step: none exactly where it is not listed
 abbrev pub FindsArchive : List ℕ → Result (Option (List ℕ)) ToolchainError → Toolchains → Toolchains → Type 0
 FindsArchive id (Ok None) old new = (lookup (bytes_eq id) old.archives ≡ None) × (new ≡ old)
-FindsArchive id (Ok (Some bytes)) old new = IsFound id bytes old new
+FindsArchive id (Ok (Some bytes)) old new = IsFound id bytes old new × KeepsStep old new
 FindsArchive id (Err e) old new = Unfound id e old new
 
 -- what a refused look into the cache comes to: none where the archive is not listed
@@ -136,6 +138,7 @@ LooksUp None (Ok (Some id)) old new = ⊥
 LooksUp None (Err e) old new = ⊥
 LooksUp (Some id) (Ok None) old new = IsToPackage id old new
 LooksUp (Some id) (Ok (Some found)) old new = (found ≡ id) × ((bytes : List ℕ) × IsFound id bytes old new)
+    × KeepsStep old new
 LooksUp (Some id) (Err e) old new = Unlooked id e old new
 
 -- the file of the weak map is as it was, or says that an id is recorded under a key
@@ -169,11 +172,13 @@ pub record IsStored (bytes : List ℕ) (old new : Toolchains) : Type 0 where
       (λ files. file_at files (archive_path (cache_path old.dir) (id_of bytes)) ≡ Some bytes)
   pub steady : new.held.faults ≡ old.held.faults
 
--- they were not, for this refusal of the cache; want of memory leaves the count of faults as it was
+-- They were not, for this error of the cache, which counts an insert that failed, where it is no refusal;
+-- want of memory leaves the count of faults as it was.
 pub record IsUnstored (bytes : List ℕ) (e : Error) (old new : Toolchains) : Type 0 where
   pub fails : StoreFails old.capacity (id_of bytes) bytes e old.archives new.archives old.held new.held
-  pub changes : new ≡ with_state old new.archives old.weak old.taken new.held
+  pub changes : new ≡ with_spoiled (with_state old new.archives old.weak old.taken new.held) new.spoiled
   pub uncounted : Uncounted e old.held new.held
+  pub spoils : MaySpoil e old.spoiled new.spoiled old.held new.held
 
 abbrev pub Stores : List ℕ → Result (List ℕ) Error → Toolchains → Toolchains → Type 0
 Stores bytes (Ok id) old new = (id ≡ id_of bytes) × IsStored bytes old new
@@ -192,12 +197,13 @@ abbrev pub id_if : List ℕ → Result (Unit {0}) ToolchainError → Result (Lis
 id_if id (Ok done) = Ok id
 id_if id (Err e) = Err e
 
--- an archive was stored: its id is recorded under the key, and told
+-- an archive was stored: its id is recorded under the key, and told, which keeps the list in step
 pub record RecordsStored (key id : List ℕ) (answer : Result (List ℕ) ToolchainError)
     (old new : Toolchains) : Type 0 where
   pub outcome : Result (Unit {0}) ToolchainError
   pub records : Records key id outcome old new
   pub gives : answer ≡ id_if id outcome
+  pub in_step : OnOk outcome (KeepsStep old new)
 
 -- what follows a store: a refusal is told, and leaves the key unrecorded
 abbrev pub AfterStore : List ℕ → Result (List ℕ) Error → Result (List ℕ) ToolchainError → Toolchains
@@ -205,12 +211,14 @@ abbrev pub AfterStore : List ℕ → Result (List ℕ) Error → Result (List �
 AfterStore key (Ok id) answer old new = RecordsStored key id answer old new
 AfterStore key (Err e) answer old new = (answer ≡ Err (toolchain_error e)) × (new ≡ old)
 
--- bytes that were packed are stored under their SHA-256, which is recorded under the key
+-- bytes that were packed are stored under their SHA-256, which keeps the list in step, and this is recorded
+-- under the key
 pub record IsStocked (key bytes : List ℕ) (answer : Result (List ℕ) ToolchainError)
     (old new : Toolchains) : Type 0 where
   pub stored : Result (List ℕ) Error
   pub between : Toolchains
   pub stores : Stores bytes stored old between
+  pub in_step : OnOk stored (KeepsStep old between)
   pub follows : AfterStore key stored answer between new
 
 abbrev pub AfterPack : List ℕ → Result (List ℕ) ToolchainError → Result (List ℕ) ToolchainError → Toolchains

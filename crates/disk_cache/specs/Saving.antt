@@ -5,12 +5,12 @@ use Rattle.dist_types.specs.Cause.{Rose}
 use Rattle.folders.specs.Files.{Files, file_at}
 use Rattle.folders.specs.Held.{Held, Holds}
 use Rattle.lru_disk_cache.specs.Store.{IoCause}
-use Rattle.lru_disk_cache.specs.declared.error.Error.TheVariants.{Io}
-use Rattle.folders.specs.declared.fault.FolderFault.{FolderFault}
-use Rattle.folders.specs.declared.fault.FolderFault.TheVariants.{Missing, Failed}
-use Rattle.folders.specs.declared.fault.FolderFault.TheVariants.{Memory as OutOfMemory}
-use Rattle.disk_cache.specs.declared.toolchain_error.ToolchainError.{ToolchainError}
-use Rattle.disk_cache.specs.declared.toolchain_error.ToolchainError.TheVariants.{Cache, BadWeakMap, Memory}
+use Rattle.dist_types.specs.declared.cache_error.Error.TheVariants.{Io}
+use Rattle.dist_types.specs.declared.folder_fault.FolderFault.{FolderFault}
+use Rattle.dist_types.specs.declared.folder_fault.FolderFault.TheVariants.{Missing, Failed}
+use Rattle.dist_types.specs.declared.folder_fault.FolderFault.TheVariants.{Memory as OutOfMemory}
+use Rattle.dist_types.specs.declared.toolchain_error.ToolchainError.{ToolchainError}
+use Rattle.dist_types.specs.declared.toolchain_error.ToolchainError.TheVariants.{Cache, BadWeakMap, Memory}
 use Rattle.disk_cache.specs.Names.{weak_path}
 use Rattle.disk_cache.specs.WeakMaps.{weak_map_at}
 

@@ -4,22 +4,22 @@ use Rattle.disk_cache.specs.WeakMaps.{Weak, weak_map_at}
 use Rattle.folders.specs.Files.{Same}
 use Rattle.folders.specs.Held.{Held, Holds, Became, Lacks}
 use Rattle.toolchain_cache.specs.Archives.{Archives, IsArchiveStore}
-use Rattle.lru_disk_cache.specs.Store.{error_of}
-use Rattle.lru_disk_cache.specs.declared.error.Error.{Error}
-use Rattle.lru_disk_cache.specs.declared.error.Error.TheVariants.{Memory as NoMemory}
-use Rattle.folders.specs.declared.fault.FolderFault.{FolderFault}
-use Rattle.folders.specs.declared.fault.FolderFault.TheVariants.{Missing, Failed}
-use Rattle.folders.specs.declared.fault.FolderFault.TheVariants.{Memory as OutOfMemory}
+use Rattle.dist_types.specs.CacheError.{error_of}
+use Rattle.dist_types.specs.declared.cache_error.Error.{Error}
+use Rattle.dist_types.specs.declared.cache_error.Error.TheVariants.{Memory as NoMemory}
+use Rattle.dist_types.specs.declared.folder_fault.FolderFault.{FolderFault}
+use Rattle.dist_types.specs.declared.folder_fault.FolderFault.TheVariants.{Missing, Failed}
+use Rattle.dist_types.specs.declared.folder_fault.FolderFault.TheVariants.{Memory as OutOfMemory}
 use Rattle.dist_types.specs.Cause.{Rose}
 use Rattle.disk_cache.specs.declared.config.DistToolchainConfig.{DistToolchainConfig}
 use Rattle.disk_cache.specs.declared.custom.Taken.{Taken}
-use Rattle.disk_cache.specs.declared.toolchain_error.ToolchainError.{ToolchainError}
-use Rattle.disk_cache.specs.declared.toolchain_error.ToolchainError.TheVariants.{Cache, Memory}
+use Rattle.dist_types.specs.declared.toolchain_error.ToolchainError.{ToolchainError}
+use Rattle.dist_types.specs.declared.toolchain_error.ToolchainError.TheVariants.{Cache, Memory}
 use Rattle.disk_cache.specs.Names.{cache_path}
 
 -- The path that a client's files lie below; its cache of archives, by its capacity and its list; the weak
 -- map; what is configured for compilers; the configured archives whose SHA-256 was taken, in the order of
--- taking; and what the folder tells.
+-- taking; what the folder tells; and how many inserts of archives failed.
 pub record Toolchains : Type 0 where
   pub dir : List ℕ
   pub capacity : ℕ
@@ -28,6 +28,7 @@ pub record Toolchains : Type 0 where
   pub configs : List DistToolchainConfig
   pub taken : List Taken
   pub held : Held
+  pub spoiled : ℕ
 
 -- What holds of it, whatever failed so far: each listed archive has a file of its size whose SHA-256 is its
 -- id, and the file of the weak map is an object of texts, or is not there, where files are told. So no later
@@ -51,7 +52,12 @@ with_state t archives weak taken held =
       configs = t.configs;
       taken = taken;
       held = held;
+      spoiled = t.spoiled;
     }
+
+-- the same, where so many inserts failed
+abbrev pub with_spoiled : Toolchains → ℕ → Toolchains
+with_spoiled t spoiled = record t { spoiled = spoiled }
 
 -- only the folder's state may differ
 abbrev pub with_held : Toolchains → Held → Toolchains

@@ -4,17 +4,19 @@ ghost use Rattle.std.specs.Prelude.{OnErr, codes};
 ghost use Rattle.std.specs.Map.{lookup};
 ghost use Rattle.std.specs.Str.{bytes_eq};
 ghost use Rattle.std.specs.Option.{option_map};
-ghost use Rattle.folders.specs.Files.{file_at};
+ghost use Rattle.folders.specs.Files.{file_at, front};
 ghost use Rattle.folders.specs.Held.{Holds, Became, Lacks};
 ghost use Rattle.toolchain_cache.specs.Archives.{id_of, opened_archives, IsInStep};
+ghost use Rattle.lru_disk_cache.specs.Disk.{KeepsSpoiled};
 ghost use Rattle.lru_disk_cache.specs.Store.{Uncounted};
 ghost use Rattle.toolchain_cache.specs.Archiving.{FindFails, Relists};
 ghost use Rattle.toolchain_cache.specs.Stored.{KeepsListed};
 ghost use Rattle.disk_cache.specs.Configs.{config_of, config_verdict, custom_of, IsChoice};
 ghost use Rattle.disk_cache.specs.Custom.{TellsCustom, Takes, Unread, IsCustom, taken_of, last_taken, taking};
 ghost use Rattle.disk_cache.specs.Custom.{custom_as, custom_told, customs_seen};
+ghost use Rattle.disk_cache.specs.InStep.{KeepsStep};
 ghost use Rattle.disk_cache.specs.Names.{cache_path, temp_dir, weak_path};
-ghost use Rattle.disk_cache.specs.Opening.{IsEmpty, ButOwn, LeftOpen, OpeningFails};
+ghost use Rattle.disk_cache.specs.Opening.{IsEmpty, HasOnly, ButOwn, LeftOpen, OpeningFails};
 ghost use Rattle.disk_cache.specs.Others.{KeepsBeside, KeepsOthers};
 ghost use Rattle.disk_cache.specs.Putting.{Gets, IsFound, ReadsCustom, FindsArchive, LooksUp, found_of};
 ghost use Rattle.disk_cache.specs.Putting.{looked_of};
@@ -58,6 +60,7 @@ pub struct ClientToolchains<F: Folder> {
 }
 
 impl<F: Folder> Model for ClientToolchains<F> {
+    ghost use Rattle.std.specs.Prelude.{◌≤◌};
     ghost use Rattle.disk_cache.specs.Toolchains.{Toolchains};
     ghost use Rattle.disk_cache.specs.Shelf.{IsShelf};
 
@@ -73,10 +76,11 @@ impl<F: Folder> Model for ClientToolchains<F> {
       taken = t.taken.items;
       held = F.held
           t.cache.folder;
+      spoiled = t.cache.spoiled;
     } };
 
     ghost invariant = { λ t. IsShelf t.names t.cache.path t.cache.capacity t.cache.archives (F.held
-        t.cache.folder) };
+        t.cache.folder) × (t.cache.spoiled ≤ 18446744073709551615) };
 }
 
 impl<F: Folder> ClientToolchains<F> {
@@ -98,11 +102,13 @@ impl<F: Folder> ClientToolchains<F> {
         F: Drop,
         ensures at { IfOk result (λ t. (t.dir ≡ cache_dir.now) × (t.capacity ≡ cache_size) × (t.configs ≡
             configs.now) × (t.taken ≡ [])) }
+        ensures fresh { IfOk result (λ t. t.spoiled ≡ 0) }
         ensures archives { IfOk result (λ t. Holds (F.held folder) (λ files. t.archives ≡ opened_archives
             (cache_path cache_dir.now) cache_size files)) }
         ensures relists { IfOk result (λ t. Holds (F.held folder) (λ files. Relists
             (cache_path cache_dir.now) cache_size files t.archives)) }
         ensures in_step { IfOk result (λ t. IsInStep (cache_path cache_dir.now) t.held t.archives) }
+        ensures cleared { IfOk result (λ t. Holds t.held (HasOnly (cache_path cache_dir.now) t.archives)) }
         ensures kept { IfOk result (λ t. Became (KeepsListed (cache_path cache_dir.now) cache_size)
             (F.held folder).files t.held.files) }
         ensures weak { IfOk result (λ t. Holds (F.held folder) (λ files. weak_map_at cache_dir.now files ≡
@@ -136,11 +142,13 @@ impl<F: Folder> ClientToolchains<F> {
     ) -> Result<Self, (ToolchainError, F)>
         ensures at { IfOk result (λ t. (t.dir ≡ cache_dir.now) × (t.capacity ≡ cache_size) × (t.configs ≡
             configs.now) × (t.taken ≡ [])) }
+        ensures fresh { IfOk result (λ t. t.spoiled ≡ 0) }
         ensures archives { IfOk result (λ t. Holds (F.held folder) (λ files. t.archives ≡ opened_archives
             (cache_path cache_dir.now) cache_size files)) }
         ensures relists { IfOk result (λ t. Holds (F.held folder) (λ files. Relists
             (cache_path cache_dir.now) cache_size files t.archives)) }
         ensures in_step { IfOk result (λ t. IsInStep (cache_path cache_dir.now) t.held t.archives) }
+        ensures cleared { IfOk result (λ t. Holds t.held (HasOnly (cache_path cache_dir.now) t.archives)) }
         ensures kept { IfOk result (λ t. Became (KeepsListed (cache_path cache_dir.now) cache_size)
             (F.held folder).files t.held.files) }
         ensures weak { IfOk result (λ t. Holds (F.held folder) (λ files. weak_map_at cache_dir.now files ≡
@@ -201,6 +209,7 @@ impl<F: Folder> ClientToolchains<F> {
     /// memory. No file but those of the cache is changed.
     pub fn get_toolchain(&mut self, tc: &Toolchain) -> Result<Option<Vec<u8>>, ToolchainError>
         ensures gets { Gets tc.now (archives_seen result) self.old self.new }
+        ensures in_step { OnOk result (KeepsStep self.old self.new) }
         ensures beside { KeepsBeside self.old self.new }
         ensures later { self.old.held.faults ≤ self.new.held.faults }
         ensures stands { IsClient self.new }
@@ -222,6 +231,7 @@ impl<F: Folder> ClientToolchains<F> {
     ) -> Option<Result<(Toolchain, String, String), ToolchainError>>
         ensures tells { TellsCustom (custom_of compiler_path.now self.old.configs) compiler_path.now
             (customs_seen result) self.old self.new }
+        ensures in_step { KeepsStep self.old self.new }
         ensures beside { KeepsBeside self.old self.new }
         ensures later { self.old.held.faults ≤ self.new.held.faults }
         ensures stands { IsClient self.new }
@@ -250,6 +260,7 @@ impl<F: Folder> ClientToolchains<F> {
             (CalledOnce (times packager.old) (times packager.new)) (packs packager.old)
             (refusals packager.old) (refusals packager.new) compiler_path.now weak_key.now
             (placed_seen result) self.old self.new }
+        ensures in_step { OnOk result (KeepsStep self.old self.new) }
         ensures others { KeepsOthers weak_key.now self.old self.new }
         ensures later { self.old.held.faults ≤ self.new.held.faults }
         ensures stands { IsClient self.new }
@@ -414,6 +425,7 @@ impl<F: Folder> ClientToolchains<F> {
     // The archive of a toolchain in the cache.
     fn find(&mut self, tc: &Toolchain) -> Result<Vec<u8>, Error>
         ensures ok { IfOk result (λ v. IsFound tc.now v.items self.old self.new) }
+        ensures in_step { OnOk result (KeepsStep self.old self.new) }
         ensures changes { self.new ≡ with_state self.old self.new.archives self.old.weak self.old.taken
             self.new.held }
         ensures fails { IfErr result (λ e. FindFails tc.now e self.old.archives self.new.archives
@@ -423,10 +435,7 @@ impl<F: Folder> ClientToolchains<F> {
         ensures beside { KeepsBeside self.old self.new }
         ensures later { self.old.held.faults ≤ self.new.held.faults }
     {
-        match self.cache.get_file(tc) {
-            Ok(bytes) => Ok(bytes),
-            Err(refusal) => Err(refusal),
-        }
+        self.cache.get_file(tc)
     }
 
     // The archive of a toolchain in the cache: none where it is not listed.
@@ -526,22 +535,24 @@ impl<F: Folder> ClientToolchains<F> {
     // Stores bytes as the archive of their SHA-256.
     fn store(&mut self, bytes: &[u8]) -> Result<Toolchain, Error>
         ensures stores { Stores bytes.now result self.old self.new }
+        ensures in_step { OnOk result (KeepsStep self.old self.new) }
         ensures beside { KeepsBeside self.old self.new }
         ensures later { self.old.held.faults ≤ self.new.held.faults }
     {
-        match self.cache.insert_package(bytes) {
-            Ok(tc) => Ok(tc),
-            Err(refusal) => Err(refusal),
-        }
+        self.cache.insert_package(bytes)
     }
 
     // Records an id under a weak key.
-    #[tactic(auto, using(crate::proofs::OthersLemmas::own_of_two, crate::proofs::OthersLemmas::own_same))]
+    #[tactic(auto, using(crate::proofs::OthersLemmas::own_of_two, crate::proofs::OthersLemmas::own_same, crate::proofs::OthersLemmas::two_spared, lru_disk_cache::proofs::Spoiled::none_spoiled))]
     fn record(&mut self, key: &str, tc: &Toolchain) -> Result<(), ToolchainError>
         ensures records { Records key.now tc.now result self.old self.new }
+        ensures in_step { OnOk result (KeepsStep self.old self.new) }
         ensures dir { self.new.dir ≡ self.old.dir }
         ensures own { Became (ButOwn self.old.dir) self.old.held.files self.new.held.files }
         ensures kept { KeptOrRecorded key.now tc.now self.old self.new }
+        ensures spared { Became (KeepsSpoiled (front (cache_path self.old.dir)) self.old.spoiled)
+            self.old.held.files self.new.held.files }
+        ensures unspoiled { self.new.spoiled ≡ self.old.spoiled }
         ensures later { self.old.held.faults ≤ self.new.held.faults }
     {
         let Ok(weak) = self.weak.with_recorded(self.alloc, key, tc) else {

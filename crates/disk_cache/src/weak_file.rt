@@ -31,6 +31,7 @@ pub(crate) fn save<F: Folder>(
         cache.new.folder) }
     ensures in_step { IsInStep cache.old.path (F.held cache.old.folder) cache.old.archives → IsInStep
         cache.new.path (F.held cache.new.folder) cache.new.archives }
+    ensures unspoiled { cache.new.spoiled ≡ cache.old.spoiled }
     ensures written { OnOk result (Holds (F.held cache.new.folder) (λ files. file_at files (weak_path
         names.now.dir) ≡ Some text.now)) }
     ensures gone { OnOk result (Holds (F.held cache.new.folder) (Lacks (temp_path names.now.dir))) }
@@ -67,6 +68,7 @@ fn begin<F: Folder>(
         cache.new.folder) }
     ensures in_step { IsInStep cache.old.path (F.held cache.old.folder) cache.old.archives → IsInStep
         cache.new.path (F.held cache.new.folder) cache.new.archives }
+    ensures unspoiled { cache.new.spoiled ≡ cache.old.spoiled }
     ensures none { IfOk result (λ map. map ≡ []) }
     ensures written { IfOk result (λ map. Holds (F.held cache.new.folder) (λ files. weak_map_at
         names.now.dir files ≡ Some map)) }
@@ -120,6 +122,7 @@ pub(crate) fn load<F: Folder>(
         cache.new.folder) }
     ensures in_step { IsInStep cache.old.path (F.held cache.old.folder) cache.old.archives → IsInStep
         cache.new.path (F.held cache.new.folder) cache.new.archives }
+    ensures unspoiled { cache.new.spoiled ≡ cache.old.spoiled }
     ensures found { IfOk result (λ map. Holds (F.held cache.old.folder) (λ files. weak_map_at names.now.dir
         files ≡ Some map)) }
     ensures written { IfOk result (λ map. Holds (F.held cache.new.folder) (λ files. weak_map_at

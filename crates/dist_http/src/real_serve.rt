@@ -3,7 +3,7 @@ ghost use Rattle.std.specs.Prelude.{◌≡◌, ◌≤◌, None, OnOk, OnErr};
 ghost use Rattle.dist_types.specs.Cause.{Rose};
 ghost use Rattle.dist_types.specs.Content.{Recorded, KeptOrRecorded};
 ghost use Rattle.dist_config.specs.Serve.{scheduler_call, server_call};
-ghost use Rattle.dist_http.specs.Starts.{left_of};
+ghost use Rattle.dist_http.specs.Starts.{start_of, left_of, IsOneCall};
 
 use crate::starts::Starts;
 use dist_config::config::{SchedulerConfig, ServerConfig};
@@ -13,18 +13,20 @@ use http_connections::start::{Start, StartFault};
 use rand_core::Rng;
 
 /// A start of a scheduler.
-pub type SchedulerCall = Box<dyn Fn(&SchedulerConfig, Start) -> Result<(), StartFault> + Drop>;
+pub type SchedulerCall = Box<dyn FnMut(&SchedulerConfig, Start) -> Result<(), StartFault> + Drop>;
 
 /// A start of a build server.
-pub type ServerCall = Box<dyn Fn(&ServerConfig, Start) -> Result<(), StartFault> + Drop>;
+pub type ServerCall = Box<dyn FnMut(&ServerConfig, Start) -> Result<(), StartFault> + Drop>;
 
 /// Serves by the two calls that it is made of, which `main` makes of `serve_scheduler` and `serve_server`
 /// over the runtime of the system: what a call sends to threads may not rest on a bound, so no type parameter
-/// can be that runtime. It tells no record.
+/// can be that runtime. It tells no record, but each of its calls is one of those two.
 #[derive(Drop)]
 pub struct RealServe<G> {
-    scheduler: SchedulerCall,
-    server: ServerCall,
+    /// What serves as a scheduler.
+    pub scheduler: SchedulerCall,
+    /// What serves as a build server.
+    pub server: ServerCall,
     /// What its starts are given.
     pub starts: Starts<G>,
     faults: u64,
@@ -41,6 +43,8 @@ impl<G> RealServe<G> {
         ensures starts { result.starts
             ≡ record { random = random; cpus = cpus; limit = None; timeout_ms = 30000 } }
         ensures faults { result.faults ≡ 0 }
+        ensures scheduler { result.scheduler ≡ scheduler }
+        ensures server { result.server ≡ server }
     {
         RealServe::with_starts(scheduler, server, Starts::new(random, cpus))
     }
@@ -51,6 +55,8 @@ impl<G> RealServe<G> {
         requires serves { ServerCall.IsAlwaysCallable server }
         ensures starts { result.starts ≡ starts }
         ensures faults { result.faults ≡ 0 }
+        ensures scheduler { result.scheduler ≡ scheduler }
+        ensures server { result.server ≡ server }
     {
         RealServe {
             scheduler,
@@ -61,7 +67,7 @@ impl<G> RealServe<G> {
     }
 }
 
-/// Each call draws one start.
+/// Each call draws one start, makes one call with it, and answers Ok exactly where that does.
 impl<G: Rng> Serve for RealServe<G> {
     ghost calls = { λ _. None };
 
@@ -75,6 +81,10 @@ impl<G: Rng> Serve for RealServe<G> {
         ensures cause { OnErr result (Rose self.old.faults self.new.faults) }
 
         ensures drawn { G.stream self.new.starts.random ≡ left_of (G.stream self.old.starts.random) }
+        ensures called { IsOneCall (λ answer left. SchedulerCall.step self.old.scheduler config.entry
+            (start_of (G.stream self.old.starts.random) self.old.starts.cpus self.old.starts.limit
+            self.old.starts.timeout_ms) answer left) self.new.scheduler result }
+        ensures server { self.new.server ≡ self.old.server }
     {
         let start = self.starts.draw();
         match (self.scheduler)(config, start) {
@@ -94,6 +104,10 @@ impl<G: Rng> Serve for RealServe<G> {
         ensures cause { OnErr result (Rose self.old.faults self.new.faults) }
 
         ensures drawn { G.stream self.new.starts.random ≡ left_of (G.stream self.old.starts.random) }
+        ensures called { IsOneCall (λ answer left. ServerCall.step self.old.server config.entry
+            (start_of (G.stream self.old.starts.random) self.old.starts.cpus self.old.starts.limit
+            self.old.starts.timeout_ms) answer left) self.new.server result }
+        ensures scheduler { self.new.scheduler ≡ self.old.scheduler }
     {
         let start = self.starts.draw();
         match (self.server)(config, start) {

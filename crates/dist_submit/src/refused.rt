@@ -1,6 +1,6 @@
 //! Refusals of calls, as the program tells them.
 use disk_cache::ToolchainError;
-use http_calls::error::CallError;
+use http_calls::error::HttpError;
 use std::alloc::Global;
 use submit_words::refusal::{Refusal, Step};
 
@@ -34,16 +34,20 @@ fn named(alloc: Global, cause: &str) -> Refusal {
 }
 
 /// A refusal of a call at a step, by its name.
-pub(crate) fn call(alloc: Global, step: Step, refusal: CallError) -> Refusal {
+pub(crate) fn call(alloc: Global, step: Step, refusal: HttpError) -> Refusal {
     match refusal {
-        CallError::BadBase => Refusal::BadBase,
-        CallError::HeadTooLong => Refusal::HeadTooLong,
-        CallError::LinkFault => Refusal::LinkFault(step),
-        CallError::ParseError => Refusal::ParseError(step),
-        CallError::Status(code, body) => Refusal::Status(step, code, text_of(body.into_inner())),
-        CallError::NotLocal => named(alloc, "the archive is not there"),
-        CallError::Packager => named(alloc, "the inputs were not packed"),
-        CallError::Local(refusal) => toolchain(alloc, refusal),
-        CallError::Memory => Refusal::Memory,
+        HttpError::BadBase => Refusal::BadBase,
+        HttpError::HeadTooLong => Refusal::HeadTooLong,
+        HttpError::LinkFault => Refusal::LinkFault(step),
+        HttpError::ParseError => Refusal::ParseError(step),
+        HttpError::Status(code, body) => Refusal::Status(step, code, text_of(body.into_inner())),
+        HttpError::NotLocal => named(alloc, "the archive is not there"),
+        HttpError::Packager => named(alloc, "the inputs were not packed"),
+        HttpError::Local(refusal) => toolchain(alloc, refusal),
+        HttpError::Memory => Refusal::Memory,
+        other => match format!(in alloc; "{other}") {
+            Ok(cause) => Refusal::Toolchain(cause),
+            Err(_) => Refusal::Memory,
+        },
     }
 }

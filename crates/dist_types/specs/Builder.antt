@@ -1,5 +1,5 @@
 -- The record of builds.
-use Rattle.std.specs.Prelude.{ℕ, List, Result}
+use Rattle.std.specs.Prelude.{◌≡◌, ℕ, List, length, Option, IfSome, Result}
 use Rattle.dist_types.specs.declared.builder.BuildFault.{BuildFault}
 use Rattle.dist_types.specs.declared.command.CompileCommand.{CompileCommand}
 use Rattle.dist_types.specs.declared.results.BuildResult.{BuildResult}
@@ -24,3 +24,13 @@ built_row toolchain digest command outputs inputs answer = record {
   inputs = inputs;
   answer = answer;
 }
+
+-- what a builder answers where its record has so many rows, to the names of outputs and the inputs asked
+abbrev pub Answering : Type 0
+Answering = ℕ → List (List ℕ) → List ℕ → Result BuildResult BuildFault
+
+-- A builder of this record answers so, where both its answers and its record are told.
+abbrev pub AnswersBy : Option Answering → Option (List Built) → List (List ℕ) → List ℕ
+    → Result BuildResult BuildFault → Type 0
+AnswersBy answers built outputs inputs answer =
+    IfSome answers (λ f. IfSome built (λ rows. answer ≡ f (length rows) outputs inputs))

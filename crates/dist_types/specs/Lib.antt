@@ -1,6 +1,7 @@
 pub mod Addr
 pub mod Answers
 pub mod Builder
+pub mod CacheError
 pub mod Cause
 pub mod Clock
 pub mod Command

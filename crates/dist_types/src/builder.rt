@@ -3,7 +3,7 @@ ghost use Rattle.std.specs.Prelude.{◌≡◌, ◌≤◌, ◌≢◌, List, ℕ, 
 ghost use Rattle.sha2.specs.Sha256.{sha256};
 ghost use Rattle.dist_types.specs.Cause.{Rose};
 ghost use Rattle.dist_types.specs.Content.{Recorded, KeptOrRecorded};
-ghost use Rattle.dist_types.specs.Builder.{Built, built_row};
+ghost use Rattle.dist_types.specs.Builder.{Answering, AnswersBy, Built, built_row};
 
 use crate::command::CompileCommand;
 use crate::fault::Memory;
@@ -67,6 +67,9 @@ pub trait BuilderIncoming {
     /// How often it refused.
     ghost refusals: { Self → ℕ };
 
+    /// What it answers to each build, where it is told. No build changes it.
+    ghost answers: { Self → Option Answering };
+
     /// Runs the command in the toolchain over the inputs, and gives what it gave and the outputs of these
     /// names.
     fn run_build(
@@ -88,5 +91,8 @@ pub trait BuilderIncoming {
         ensures steady { OnOk result (refusals self.new ≡ refusals self.old) }
         ensures uncounted { result ≡ Err BuildFault.Memory → refusals self.new ≡ refusals self.old }
         ensures later { refusals self.old ≤ refusals self.new }
-        ensures cause { result ≡ Err BuildFault.Refused → Rose (refusals self.old) (refusals self.new) };
+        ensures cause { result ≡ Err BuildFault.Refused → Rose (refusals self.old) (refusals self.new) }
+        ensures answered { result ≢ Err BuildFault.Memory
+            → AnswersBy (answers self.old) (built self.old) outputs.now inputs.now result }
+        ensures same_answers { answers self.new ≡ answers self.old };
 }

@@ -8,10 +8,12 @@
 
 pub mod addr;
 pub mod builder;
+pub mod cache_error;
 pub mod clock;
 pub mod command;
 pub mod dialer;
 pub mod fault;
+pub mod folder_fault;
 pub mod ids;
 pub mod keys;
 pub mod link;
@@ -28,5 +30,6 @@ pub mod text;
 mod text_key;
 pub mod token_error;
 pub mod toolchain;
+pub mod toolchain_error;
 pub mod try_clone;
 pub mod type_error;

@@ -262,6 +262,8 @@ impl<D: Dialer, P: Pause> BuilderIncoming for ExecBuilder<D, P> {
 
     ghost refusals = { λ b. b.refusals };
 
+    ghost answers = { λ _. None };
+
     /// What the executor answers to that command in that archive over those inputs. Refused where it refuses or
     /// does not answer, and where command and names have 2^32 bytes or more.
     fn run_build(

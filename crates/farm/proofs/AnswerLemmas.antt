@@ -12,7 +12,8 @@ use Rattle.line_program.specs.declared.fault.ConfigCause.{ConfigCause}
 use Rattle.line_program.specs.declared.fault.ConfigCause.TheVariants.{Missing, Unreadable, NotToml, Key}
 use Rattle.line_program.specs.declared.fault.FarmFault.{FarmFault}
 use Rattle.line_program.specs.declared.fault.FarmFault.TheVariants.{Usage, BadLine, DuplicateAddress}
-use Rattle.line_program.specs.declared.fault.FarmFault.TheVariants.{ScopedAddress, ReadFault, WriteFault}
+use Rattle.line_program.specs.declared.fault.FarmFault.TheVariants.{ScopedAddress, OverlappingIds}
+use Rattle.line_program.specs.declared.fault.FarmFault.TheVariants.{ReadFault, WriteFault}
 use Rattle.line_program.specs.declared.fault.FarmFault.TheVariants.{BadConfig, ServeFault, Memory, AuditRefused}
 use Rattle.farm_script.specs.FirstFaulty.{IsFirstFaulty, IsFaultless}
 use Rattle.command_line.specs.declared.files.NamedFile.{NamedFile}
@@ -24,11 +25,11 @@ use Rattle.command_line.specs.Asked.{asked_by, audit}
 use Rattle.command_line.specs.Parsed.{OverFiles, command_in}
 use Rattle.line_program.specs.Report.{fault_status, IsTold, IsLong, StandsFor, IsReported}
 use Rattle.line_program.specs.Side.{Side}
-use Rattle.farm.specs.Command.{program_name, Serving, Called, Moment, IsFarmRun}
+use Rattle.farm.specs.Command.{program_name, Serving, Called, Moment, farm_runs, IsFarmRun}
 use Rattle.farm.specs.Command.{IsStormRun, IsAuthRun, IsStarted, IsCarriedOut, IsUnparsed}
 use Rattle.farm.specs.Command.{IsWorked, IsDoneBy, IsDone}
 use Rattle.farm.specs.Command.{IsAnswered}
-use Rattle.farm.proofs.ScriptRunLemmas.{whole_in_part}
+use Rattle.line_program.proofs.ProgramLemmas as programs
 use Rattle.farm.proofs.AuditLemmas.{memory_audit, input_audit, out_audit}
 
 status_some : (f : FarmFault) → 0 < fault_status f
@@ -41,6 +42,7 @@ status_some WriteFault = omega arith
 status_some (BadConfig c) = omega arith
 status_some ServeFault = omega arith
 status_some (AuditRefused n why) = omega arith
+status_some (OverlappingIds n) = omega arith
 status_some Memory = omega arith
 
 status_most : (f : FarmFault) → fault_status f ≤ 8
@@ -53,6 +55,7 @@ status_most WriteFault = omega arith
 status_most (BadConfig c) = omega arith
 status_most ServeFault = omega arith
 status_most (AuditRefused n why) = omega arith
+status_most (OverlappingIds n) = omega arith
 status_most Memory = omega arith
 
 told_some : (f : FarmFault) (answer : ℕ) (e x : Side) → IsTold program_name f answer e x → 0 < answer
@@ -67,22 +70,10 @@ own f answer e x (inr p) h = absurd (h p.0)
 
 -- ---- want of memory is told in place of a fault whose text takes memory
 
-memory_run : (met : FarmFault) (i j o p : Side) → IsLong met → IsFarmRun (Err met) i j o p
-    → IsFarmRun (Err Memory) i j o p
-memory_run (BadLine n) i j o p long h = (h.0.1, h.1, whole_in_part i j h.0)
-memory_run (DuplicateAddress n) i j o p long h = (h.0.1, h.1, whole_in_part i j h.0)
-memory_run (ScopedAddress n) i j o p long h = (h.0.1, h.1, whole_in_part i j h.0)
-memory_run (BadConfig c) i j o p long h = absurd h
-memory_run (AuditRefused n why) i j o p long h = absurd h
-memory_run Usage i j o p long h = absurd long
-memory_run ReadFault i j o p long h = absurd long
-memory_run WriteFault i j o p long h = absurd long
-memory_run ServeFault i j o p long h = absurd long
-memory_run Memory i j o p long h = absurd long
-
 memory_storm : (n : ℕ) (met : FarmFault) (o p : Side) → IsLong met → IsStormRun n (Err met) o p → ⊥
 memory_storm n (BadConfig c) o p long h = h
 memory_storm n (AuditRefused k why) o p long h = h
+memory_storm n (OverlappingIds k) o p long h = h
 memory_storm n (BadLine k) o p long h = h
 memory_storm n (DuplicateAddress k) o p long h = h
 memory_storm n (ScopedAddress k) o p long h = h
@@ -94,12 +85,13 @@ memory_storm n Memory o p long h = long
 
 memory_auth : (auth : AuthSubcommand) (met : FarmFault) (s t : Stream) (o p : Side) → IsLong met
     → IsAuthRun auth (Err met) s t o p → IsAuthRun auth (Err Memory) s t o p
-memory_auth auth (BadConfig (Key key)) s t o p long h = h.2
+memory_auth auth (BadConfig (Key key)) s t o p long h = (h.3, inl h.2)
 memory_auth auth (BadConfig Missing) s t o p long h = absurd h
 memory_auth auth (BadConfig Unreadable) s t o p long h = absurd h
 memory_auth auth (BadConfig NotToml) s t o p long h = absurd h
 memory_auth auth (BadLine n) s t o p long h = absurd h
 memory_auth auth (AuditRefused n why) s t o p long h = absurd h
+memory_auth auth (OverlappingIds n) s t o p long h = absurd h
 memory_auth auth (DuplicateAddress n) s t o p long h = absurd h
 memory_auth auth (ScopedAddress n) s t o p long h = absurd h
 memory_auth auth Usage s t o p long h = absurd long
@@ -113,6 +105,7 @@ no_start : (row : Result (Unit {0}) Failed → ServeCall) (met : FarmFault) (s t
 no_start row (BadConfig c) s t long h = h
 no_start row (BadLine n) s t long h = h
 no_start row (AuditRefused n why) s t long h = h
+no_start row (OverlappingIds n) s t long h = h
 no_start row (DuplicateAddress n) s t long h = h
 no_start row (ScopedAddress n) s t long h = h
 no_start row Usage s t long h = long
@@ -124,7 +117,7 @@ no_start row Memory s t long h = long
 memory_out : (command : Command) (met : FarmFault) (before after : Moment) → IsLong met
     → IsCarriedOut command (Err met) before after → IsCarriedOut command (Err Memory) before after
 memory_out Farm met before after long h =
-    (memory_run met before.input after.input before.out after.out long h.0, h.1, h.2)
+    (programs.memory_run farm_runs met before.input after.input before.out after.out long h.0, h.1, h.2)
 memory_out (Storm n) met before after long h = absurd (memory_storm n met before.out after.out long h.0)
 memory_out (Auth auth) met before after long h =
     (memory_auth auth met before.random after.random before.out after.out long h.0, h.1, h.2)
@@ -143,6 +136,7 @@ memory_unparsed what (BadConfig Unreadable) before after long h = absurd long
 memory_unparsed what (BadConfig NotToml) before after long h = absurd long
 memory_unparsed what (BadLine n) before after long h = absurd h.0
 memory_unparsed what (AuditRefused n why) before after long h = absurd h.0
+memory_unparsed what (OverlappingIds n) before after long h = absurd h.0
 memory_unparsed what (DuplicateAddress n) before after long h = absurd h.0
 memory_unparsed what (ScopedAddress n) before after long h = absurd h.0
 memory_unparsed what Usage before after long h = absurd long
@@ -209,6 +203,7 @@ farm_unparsed Memory before after h = refl
 farm_unparsed (BadConfig c) before after h = absurd h.0.0
 farm_unparsed (BadLine n) before after h = absurd h.0
 farm_unparsed (AuditRefused n why) before after h = absurd h.0
+farm_unparsed (OverlappingIds n) before after h = absurd h.0
 farm_unparsed (DuplicateAddress n) before after h = absurd h.0
 farm_unparsed (ScopedAddress n) before after h = absurd h.0
 farm_unparsed Usage before after h = absurd h.0
@@ -239,22 +234,6 @@ farm_fault what f before after e done =
 
 -- ---- the farm command
 
--- the statuses of its faults
-run_status : (f : FarmFault) (answer : ℕ) (i j o p : Side) (e x : Side) → IsFarmRun (Err f) i j o p
-    → IsTold program_name f answer e x
-    → (answer ≡ 1) ⊎ ((answer ≡ 3) ⊎ ((answer ≡ 4) ⊎ (answer ≡ 5)))
-run_status f answer i j o p e x h (inr t) = inr (inr (inr t.0))
-run_status (BadLine n) answer i j o p e x h (inl t) = inl t.0
-run_status (DuplicateAddress n) answer i j o p e x h (inl t) = inl t.0
-run_status (ScopedAddress n) answer i j o p e x h (inl t) = inl t.0
-run_status Memory answer i j o p e x h (inl t) = inr (inl t.0)
-run_status ReadFault answer i j o p e x h (inl t) = inr (inr (inl t.0))
-run_status WriteFault answer i j o p e x h (inl t) = inr (inr (inr t.0))
-run_status (BadConfig c) answer i j o p e x h (inl t) = absurd h
-run_status (AuditRefused n why) answer i j o p e x h (inl t) = absurd h
-run_status ServeFault answer i j o p e x h (inl t) = absurd h
-run_status Usage answer i j o p e x h (inl t) = absurd h
-
 pub memory_status : (f : FarmFault) (answer : ℕ) (e x : Side) → f ≡ Memory → IsTold program_name f answer e x → (answer ≡ 3)
     ⊎ (answer ≡ 5)
 memory_status f answer e x is told = by_told (subst (λ (g : FarmFault). IsTold program_name g answer e x) is told)
@@ -276,7 +255,7 @@ farm_status : (f : FarmFault) (answer : ℕ) (i j o p : Side) (e x : Side) → (
     → (answer ≡ 1) ⊎ ((answer ≡ 3) ⊎ ((answer ≡ 4) ⊎ (answer ≡ 5)))
 farm_status f answer i j o p e x (inl m) told = three_of (answer ≡ 1) (answer ≡ 4) answer
     (memory_status f answer e x m told)
-farm_status f answer i j o p e x (inr h) told = run_status f answer i j o p e x h told
+farm_status f answer i j o p e x (inr h) told = programs.line_status farm_runs f answer i j o p e x h told
 
 pub faulty_of : (answer : ℕ) (c : Called) (e x : Side) → IsAnswered answer c e x
     → asked_by c.words ≡ Some farm
@@ -284,33 +263,13 @@ pub faulty_of : (answer : ℕ) (c : Called) (e x : Side) → IsAnswered answer c
     ⊎ ((answer ≡ 3) ⊎ ((answer ≡ 4) ⊎ (answer ≡ 5))))
 faulty_of zero c e x a named =
     let run = farm_done (asked_by c.words) c.before c.after named (a.done refl).0 in
-    IfSome_then c.before.input.content run.2 (λ bytes t f first. absurd (t.1.fine f first))
+    IfSome_then c.before.input.content run.1.1 (λ bytes t f first. absurd (t.0 f first))
 faulty_of (suc k) c e x a named =
     let t = a.told (omega arith) in
     let why = farm_fault (asked_by c.words) t.0 c.before c.after named t.1 in
     always c.before.input.content
     (λ bytes f first. farm_status t.0 (suc k) c.before.input c.after.input c.before.out c.after.out e x
     why t.2)
-
--- where no line is faulty
-fine_status : (f : FarmFault) (answer : ℕ) (i j o p : Side) (e x : Side) → IsFarmRun (Err f) i j o p
-    → IsTold program_name f answer e x
-    → IfSome i.content (λ bytes. IsFaultless bytes → (answer ≡ 0)
-    ⊎ ((answer ≡ 3) ⊎ ((answer ≡ 4) ⊎ (answer ≡ 5))))
-fine_status f answer i j o p e x h (inr t) = always i.content (λ bytes fine. inr (inr (inr t.0)))
-fine_status (BadLine n) answer i j o p e x h (inl t) = IfSome_then i.content h.2
-    (λ bytes first fine. absurd (fine (BadLine n) first))
-fine_status (DuplicateAddress n) answer i j o p e x h (inl t) = IfSome_then i.content h.2
-    (λ bytes first fine. absurd (fine (DuplicateAddress n) first))
-fine_status (ScopedAddress n) answer i j o p e x h (inl t) = IfSome_then i.content h.2
-    (λ bytes first fine. absurd (fine (ScopedAddress n) first))
-fine_status Memory answer i j o p e x h (inl t) = always i.content (λ bytes fine. inr (inl t.0))
-fine_status ReadFault answer i j o p e x h (inl t) = always i.content (λ bytes fine. inr (inr (inl t.0)))
-fine_status WriteFault answer i j o p e x h (inl t) = always i.content (λ bytes fine. inr (inr (inr t.0)))
-fine_status (BadConfig c) answer i j o p e x h (inl t) = absurd h
-fine_status (AuditRefused n why) answer i j o p e x h (inl t) = absurd h
-fine_status ServeFault answer i j o p e x h (inl t) = absurd h
-fine_status Usage answer i j o p e x h (inl t) = absurd h
 
 fine_farm : (f : FarmFault) (answer : ℕ) (i j o p : Side) (e x : Side) → (f ≡ Memory)
     ⊎ IsFarmRun (Err f) i j o p → IsTold program_name f answer e x
@@ -319,7 +278,7 @@ fine_farm : (f : FarmFault) (answer : ℕ) (i j o p : Side) (e x : Side) → (f 
 fine_farm f answer i j o p e x (inl m) told =
     always i.content (λ bytes fine. three_of (answer ≡ 0) (answer ≡ 4) answer
     (memory_status f answer e x m told))
-fine_farm f answer i j o p e x (inr h) told = fine_status f answer i j o p e x h told
+fine_farm f answer i j o p e x (inr h) told = programs.fine_status farm_runs f answer i j o p e x h told
 
 pub faultless_of : (answer : ℕ) (c : Called) (e x : Side) → IsAnswered answer c e x
     → asked_by c.words ≡ Some farm
@@ -340,10 +299,11 @@ left_run (ScopedAddress n) answer i j o p h is few = h.0.0
 left_run Memory answer i j o p h is few = absurd (omega (arith, is, few))
 left_run ReadFault answer i j o p h is few = absurd (omega (arith, is, few))
 left_run WriteFault answer i j o p h is few = absurd (omega (arith, is, few))
-left_run (BadConfig c) answer i j o p h is few = absurd h
-left_run (AuditRefused n why) answer i j o p h is few = absurd h
-left_run ServeFault answer i j o p h is few = absurd h
-left_run Usage answer i j o p h is few = absurd h
+left_run (BadConfig c) answer i j o p h is few = h.0.0
+left_run (AuditRefused n why) answer i j o p h is few = h.0.0
+left_run (OverlappingIds n) answer i j o p h is few = h.0.0
+left_run ServeFault answer i j o p h is few = h.0.0
+left_run Usage answer i j o p h is few = h.0.0
 
 left_farm : (f : FarmFault) (answer : ℕ) (i j o p : Side) → (f ≡ Memory) ⊎ IsFarmRun (Err f) i j o p
     → answer ≡ fault_status f → answer ≤ 1
@@ -369,16 +329,8 @@ left_of (suc k) c e x a named few =
 
 input_run : (f : FarmFault) (answer : ℕ) (i j o p : Side) → IsFarmRun (Err f) i j o p
     → answer ≡ fault_status f → answer ≢ 4 → answer ≢ 5 → j.faults ≡ i.faults
-input_run (BadLine n) answer i j o p h is four five = h.0.1
-input_run (DuplicateAddress n) answer i j o p h is four five = h.0.1
-input_run (ScopedAddress n) answer i j o p h is four five = h.0.1
-input_run Memory answer i j o p h is four five = h.0
-input_run ReadFault answer i j o p h is four five = absurd (four is)
-input_run WriteFault answer i j o p h is four five = absurd (five is)
-input_run (BadConfig c) answer i j o p h is four five = absurd h
-input_run (AuditRefused n why) answer i j o p h is four five = absurd h
-input_run ServeFault answer i j o p h is four five = absurd h
-input_run Usage answer i j o p h is four five = absurd h
+input_run f answer i j o p h is four five = (programs.run_counts farm_runs f i j o p h
+    (λ e. four (is ∙ ap fault_status e)) (λ e. five (is ∙ ap fault_status e))).0
 
 input_out : (command : Command) (f : FarmFault) (answer : ℕ) (before after : Moment)
     → IsCarriedOut command (Err f) before after → answer ≡ fault_status f
@@ -424,16 +376,8 @@ order_of (suc k) c e x a four five =
 
 out_run : (f : FarmFault) (answer : ℕ) (i j o p : Side) → IsFarmRun (Err f) i j o p → answer ≡ fault_status f
     → answer ≢ 5 → p.faults ≡ o.faults
-out_run (BadLine n) answer i j o p h is five = ap (λ (s : Side). s.faults) h.1
-out_run (DuplicateAddress n) answer i j o p h is five = ap (λ (s : Side). s.faults) h.1
-out_run (ScopedAddress n) answer i j o p h is five = ap (λ (s : Side). s.faults) h.1
-out_run Memory answer i j o p h is five = ap (λ (s : Side). s.faults) h.1
-out_run ReadFault answer i j o p h is five = ap (λ (s : Side). s.faults) h.1
-out_run WriteFault answer i j o p h is five = absurd (five is)
-out_run (BadConfig c) answer i j o p h is five = absurd h
-out_run (AuditRefused n why) answer i j o p h is five = absurd h
-out_run ServeFault answer i j o p h is five = absurd h
-out_run Usage answer i j o p h is five = absurd h
+out_run f answer i j o p h is five =
+    programs.out_steady farm_runs f i j o p h (λ e. five (is ∙ ap fault_status e))
 
 out_storm : (n : ℕ) (f : FarmFault) (answer : ℕ) (o p : Side) → IsStormRun n (Err f) o p
     → answer ≡ fault_status f → answer ≢ 5 → p.faults ≡ o.faults
@@ -445,20 +389,22 @@ out_storm n (ScopedAddress k) answer o p h is five = absurd h
 out_storm n ReadFault answer o p h is five = absurd h
 out_storm n (BadConfig c) answer o p h is five = absurd h
 out_storm n (AuditRefused k why) answer o p h is five = absurd h
+out_storm n (OverlappingIds k) answer o p h is five = absurd h
 out_storm n ServeFault answer o p h is five = absurd h
 out_storm n Usage answer o p h is five = absurd h
 
 out_auth : (auth : AuthSubcommand) (f : FarmFault) (answer : ℕ) (s t : Stream) (o p : Side)
     → IsAuthRun auth (Err f) s t o p → answer ≡ fault_status f
     → answer ≢ 5 → p.faults ≡ o.faults
-out_auth auth (BadConfig (Key key)) answer s t o p h is five = ap (λ (s : Side). s.faults) h.2
+out_auth auth (BadConfig (Key key)) answer s t o p h is five = ap (λ (s : Side). s.faults) h.3
 out_auth auth (BadConfig Missing) answer s t o p h is five = absurd h
 out_auth auth (BadConfig Unreadable) answer s t o p h is five = absurd h
 out_auth auth (BadConfig NotToml) answer s t o p h is five = absurd h
-out_auth auth Memory answer s t o p h is five = ap (λ (s : Side). s.faults) h
+out_auth auth Memory answer s t o p h is five = ap (λ (s : Side). s.faults) h.0
 out_auth auth WriteFault answer s t o p h is five = absurd (five is)
 out_auth auth (BadLine n) answer s t o p h is five = absurd h
 out_auth auth (AuditRefused n why) answer s t o p h is five = absurd h
+out_auth auth (OverlappingIds n) answer s t o p h is five = absurd h
 out_auth auth (DuplicateAddress n) answer s t o p h is five = absurd h
 out_auth auth (ScopedAddress n) answer s t o p h is five = absurd h
 out_auth auth ReadFault answer s t o p h is five = absurd h
@@ -494,7 +440,7 @@ out_done (Some what) before after (inr h) = by_command h.command h.carried_out
   where
     by_command : (command : Command) → IsCarriedOut command (Ok tt) before after
         → after.out.faults ≡ before.out.faults
-    by_command Farm out = out.0.1
+    by_command Farm out = out.0.1.0
     by_command Audit out = out.0.1
     by_command (Storm n) out = out.0.3
     by_command (Auth auth) out = out.0.4
@@ -521,6 +467,7 @@ serve_started row WriteFault answer s t h is seven = absurd h
 serve_started row ReadFault answer s t h is seven = absurd h
 serve_started row (BadConfig c) answer s t h is seven = absurd h
 serve_started row (AuditRefused n why) answer s t h is seven = absurd h
+serve_started row (OverlappingIds n) answer s t h is seven = absurd h
 serve_started row (BadLine n) answer s t h is seven = absurd h
 serve_started row (DuplicateAddress n) answer s t h is seven = absurd h
 serve_started row (ScopedAddress n) answer s t h is seven = absurd h
@@ -584,6 +531,7 @@ storm_status n (ScopedAddress k) answer o p e x h (inl t) = absurd h
 storm_status n ReadFault answer o p e x h (inl t) = absurd h
 storm_status n (BadConfig c) answer o p e x h (inl t) = absurd h
 storm_status n (AuditRefused k why) answer o p e x h (inl t) = absurd h
+storm_status n (OverlappingIds k) answer o p e x h (inl t) = absurd h
 storm_status n ServeFault answer o p e x h (inl t) = absurd h
 storm_status n Usage answer o p e x h (inl t) = absurd h
 
@@ -593,6 +541,7 @@ storm_unparsed n Memory before after h = refl
 storm_unparsed n (BadConfig c) before after h = absurd h.0.0
 storm_unparsed n (BadLine k) before after h = absurd h.0
 storm_unparsed n (AuditRefused k why) before after h = absurd h.0
+storm_unparsed n (OverlappingIds k) before after h = absurd h.0
 storm_unparsed n (DuplicateAddress k) before after h = absurd h.0
 storm_unparsed n (ScopedAddress k) before after h = absurd h.0
 storm_unparsed n Usage before after h = absurd h.0
@@ -654,11 +603,12 @@ two_is ReadFault e = absurd (omega (arith, e))
 two_is WriteFault e = absurd (omega (arith, e))
 two_is (BadConfig c) e = absurd (omega (arith, e))
 two_is (AuditRefused n why) e = absurd (omega (arith, e))
+two_is (OverlappingIds n) e = absurd (omega (arith, e))
 two_is ServeFault e = absurd (omega (arith, e))
 two_is Memory e = absurd (omega (arith, e))
 
 no_usage_out : (command : Command) (before after : Moment) → IsCarriedOut command (Err Usage) before after → ⊥
-no_usage_out Farm before after h = h.0
+no_usage_out Farm before after h = h.0.1
 no_usage_out Audit before after h = h.0
 no_usage_out (Storm n) before after h = h.0
 no_usage_out (Auth auth) before after h = h.0
@@ -714,6 +664,7 @@ bad_status what (BadConfig c) answer before after e x h (inl t) = inl t.0
 bad_status what Memory answer before after e x h (inl t) = inr (inl t.0)
 bad_status what (BadLine n) answer before after e x h (inl t) = absurd h.0
 bad_status what (AuditRefused n why) answer before after e x h (inl t) = absurd h.0
+bad_status what (OverlappingIds n) answer before after e x h (inl t) = absurd h.0
 bad_status what (DuplicateAddress n) answer before after e x h (inl t) = absurd h.0
 bad_status what (ScopedAddress n) answer before after e x h (inl t) = absurd h.0
 bad_status what Usage answer before after e x h (inl t) = absurd h.0

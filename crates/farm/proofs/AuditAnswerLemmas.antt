@@ -6,7 +6,8 @@ use Rattle.std.proofs.lemmas.Option.{IfSome_then}
 use Rattle.dist_types.specs.Content.{left_behind}
 use Rattle.line_program.specs.declared.fault.FarmFault.{FarmFault}
 use Rattle.line_program.specs.declared.fault.FarmFault.TheVariants.{Usage, BadLine, DuplicateAddress}
-use Rattle.line_program.specs.declared.fault.FarmFault.TheVariants.{ScopedAddress, ReadFault, WriteFault}
+use Rattle.line_program.specs.declared.fault.FarmFault.TheVariants.{ScopedAddress, OverlappingIds}
+use Rattle.line_program.specs.declared.fault.FarmFault.TheVariants.{ReadFault, WriteFault}
 use Rattle.line_program.specs.declared.fault.FarmFault.TheVariants.{BadConfig, ServeFault, Memory, AuditRefused}
 use Rattle.line_program.specs.declared.why.Why.{Why}
 use Rattle.line_program.specs.declared.why.Why.TheVariants.{Text, Core, Build, Books}
@@ -66,6 +67,7 @@ unparsed (AuditRefused n why) before after h = absurd h.0
 unparsed (BadLine n) before after h = absurd h.0
 unparsed (DuplicateAddress n) before after h = absurd h.0
 unparsed (ScopedAddress n) before after h = absurd h.0
+unparsed (OverlappingIds n) before after h = absurd h.0
 unparsed Usage before after h = absurd h.0
 unparsed ReadFault before after h = absurd h.0
 unparsed WriteFault before after h = absurd h.0
@@ -109,6 +111,7 @@ held_run laws WriteFault answer i j o p e x h (inl t) = always i.content (λ byt
 held_run laws (BadLine n) answer i j o p e x h (inl t) = absurd h
 held_run laws (DuplicateAddress n) answer i j o p e x h (inl t) = absurd h
 held_run laws (ScopedAddress n) answer i j o p e x h (inl t) = absurd h
+held_run laws (OverlappingIds n) answer i j o p e x h (inl t) = absurd h
 held_run laws (BadConfig c) answer i j o p e x h (inl t) = absurd h
 held_run laws ServeFault answer i j o p e x h (inl t) = absurd h
 held_run laws Usage answer i j o p e x h (inl t) = absurd h
@@ -123,6 +126,7 @@ refused_run WriteFault answer i j o p e x h (inl t) = inr (inr (inr t.0))
 refused_run (BadLine n) answer i j o p e x h (inl t) = absurd h
 refused_run (DuplicateAddress n) answer i j o p e x h (inl t) = absurd h
 refused_run (ScopedAddress n) answer i j o p e x h (inl t) = absurd h
+refused_run (OverlappingIds n) answer i j o p e x h (inl t) = absurd h
 refused_run (BadConfig c) answer i j o p e x h (inl t) = absurd h
 refused_run ServeFault answer i j o p e x h (inl t) = absurd h
 refused_run Usage answer i j o p e x h (inl t) = absurd h
@@ -176,6 +180,7 @@ left_run WriteFault answer i j o p h is eight = absurd (omega (arith, is, eight)
 left_run (BadLine n) answer i j o p h is eight = absurd h
 left_run (DuplicateAddress n) answer i j o p h is eight = absurd h
 left_run (ScopedAddress n) answer i j o p h is eight = absurd h
+left_run (OverlappingIds n) answer i j o p h is eight = absurd h
 left_run (BadConfig c) answer i j o p h is eight = absurd h
 left_run ServeFault answer i j o p h is eight = absurd h
 left_run Usage answer i j o p h is eight = absurd h

@@ -9,7 +9,8 @@ use Rattle.std.proofs.lemmas.List.{length-append}
 use Rattle.dist_types.specs.Content.{Taken, IsAtEnd}
 use Rattle.line_program.specs.declared.fault.FarmFault.{FarmFault}
 use Rattle.line_program.specs.declared.fault.FarmFault.TheVariants.{Usage, BadLine, DuplicateAddress}
-use Rattle.line_program.specs.declared.fault.FarmFault.TheVariants.{ScopedAddress, ReadFault, WriteFault}
+use Rattle.line_program.specs.declared.fault.FarmFault.TheVariants.{ScopedAddress, OverlappingIds}
+use Rattle.line_program.specs.declared.fault.FarmFault.TheVariants.{ReadFault, WriteFault}
 use Rattle.line_program.specs.declared.fault.FarmFault.TheVariants.{BadConfig, ServeFault, Memory, AuditRefused}
 use Rattle.line_program.specs.declared.why.Why.{Why}
 use Rattle.line_program.specs.declared.why.Why.TheVariants.{Text, Core, Build, Books}
@@ -18,13 +19,13 @@ use Rattle.line_program.specs.Pieces.{pieces, piece_len}
 use Rattle.line_program.specs.Report.{fault_status, IsLong}
 use Rattle.line_program.specs.Side.{Side}
 use Rattle.line_program.proofs.PieceLemmas.{pieces_first, piece_len-le, piece_len_some, piece_len-append}
-use Rattle.farm_script.specs.FirstFaulty.{size}
+use Rattle.line_program.specs.FirstFaulty.{size}
 use Rattle.audit.specs.Reading.{Read, nothing_read}
 use Rattle.audit.specs.declared.verdict.Verdict.TheVariants.{Refused}
 use Rattle.audit.specs.FirstBad.{FirstBadFrom, IsFirstBad, IsPrinted}
 use Rattle.audit.specs.Held.{IsHeld, IsFault, IsWrongBook}
 use Rattle.farm.specs.Audited.{IsRefusedFor, IsAuditRun, IsNoHold}
-use Rattle.farm.proofs.ScriptRunLemmas.{took_limit}
+use Rattle.line_program.proofs.ProgramLemmas.{took_limit}
 
 -- ---- more bytes than are read
 
@@ -130,6 +131,7 @@ no_hold Usage v input input_after out read taken whole h = absurd h
 no_hold (BadLine n) v input input_after out read taken whole h = absurd h
 no_hold (DuplicateAddress n) v input input_after out read taken whole h = absurd h
 no_hold (ScopedAddress n) v input input_after out read taken whole h = absurd h
+no_hold (OverlappingIds n) v input input_after out read taken whole h = absurd h
 no_hold ReadFault v input input_after out read taken whole h = absurd h
 no_hold WriteFault v input input_after out read taken whole h = absurd h
 no_hold (BadConfig c) v input input_after out read taken whole h = absurd h
@@ -158,6 +160,7 @@ memory_audit (AuditRefused n why) i j o p long h = (h.0.1, h.1, read_within i j 
 memory_audit (BadLine n) i j o p long h = absurd h
 memory_audit (DuplicateAddress n) i j o p long h = absurd h
 memory_audit (ScopedAddress n) i j o p long h = absurd h
+memory_audit (OverlappingIds n) i j o p long h = absurd h
 memory_audit (BadConfig c) i j o p long h = absurd h
 memory_audit Usage i j o p long h = absurd long
 memory_audit ReadFault i j o p long h = absurd long
@@ -175,6 +178,7 @@ input_audit WriteFault answer i j o p h is four five = absurd (five is)
 input_audit (BadLine n) answer i j o p h is four five = absurd h
 input_audit (DuplicateAddress n) answer i j o p h is four five = absurd h
 input_audit (ScopedAddress n) answer i j o p h is four five = absurd h
+input_audit (OverlappingIds n) answer i j o p h is four five = absurd h
 input_audit (BadConfig c) answer i j o p h is four five = absurd h
 input_audit ServeFault answer i j o p h is four five = absurd h
 input_audit Usage answer i j o p h is four five = absurd h
@@ -189,6 +193,7 @@ out_audit WriteFault answer i j o p h is five = absurd (five is)
 out_audit (BadLine n) answer i j o p h is five = absurd h
 out_audit (DuplicateAddress n) answer i j o p h is five = absurd h
 out_audit (ScopedAddress n) answer i j o p h is five = absurd h
+out_audit (OverlappingIds n) answer i j o p h is five = absurd h
 out_audit (BadConfig c) answer i j o p h is five = absurd h
 out_audit ServeFault answer i j o p h is five = absurd h
 out_audit Usage answer i j o p h is five = absurd h

@@ -9,10 +9,8 @@ use Rattle.dist_config.specs.Serve.{scheduler_call, server_call}
 use Rattle.dist_config.specs.declared.serve.ServeCall.{ServeCall}
 use Rattle.line_program.specs.declared.fault.ConfigCause.TheVariants.{Key}
 use Rattle.line_program.specs.declared.fault.FarmFault.{FarmFault}
-use Rattle.line_program.specs.declared.fault.FarmFault.TheVariants.{Usage, BadLine, DuplicateAddress}
-use Rattle.line_program.specs.declared.fault.FarmFault.TheVariants.{ScopedAddress, ReadFault, WriteFault}
-use Rattle.line_program.specs.declared.fault.FarmFault.TheVariants.{BadConfig, ServeFault, Memory}
-use Rattle.line_program.specs.Input.{IsReadWhole, IsReadInPart}
+use Rattle.line_program.specs.declared.fault.FarmFault.TheVariants.{Usage, WriteFault, BadConfig, ServeFault, Memory}
+use Rattle.line_program.specs.Program.{Runs, IsRun}
 use Rattle.line_program.specs.Report.{IsTold}
 use Rattle.line_program.specs.Side.{Side}
 use Rattle.farm_script.specs.FirstFaulty.{IsFirstFaulty}
@@ -74,34 +72,22 @@ pub record Called : Type 0 where
 
 -- ---- the run of a script
 
--- Input was read whole, a line of it is the first faulty one, and nothing was written.
-abbrev pub IsRefused : FarmFault → Side → Side → Side → Side → Type 0
-IsRefused f input input_after out out_after =
-    IsReadWhole input input_after × (out_after ≡ out) × IfSome input.content (λ bytes. IsFirstFaulty bytes f)
+-- The runs of the farm command. Nothing is written before every event was carried out: where memory ran out, out is as
+-- it was.
+abbrev pub farm_runs : Runs
+farm_runs = record {
+  name = program_name;
+  first_faulty = IsFirstFaulty;
+  whole = IsRunText;
+  begun = IsRunText;
+  left = λ content text. ⊥;
+}
 
 -- Input is read whole, before a line is judged; nothing is written before every line was. The text of the
 -- script's run was written; or a fault has its cause. Where reading failed or memory ran out, input was read
 -- in part at most.
 abbrev pub IsFarmRun : Result ⊤ FarmFault → Side → Side → Side → Side → Type 0
-IsFarmRun (Ok x) input input_after out out_after = IsReadWhole input input_after
-    × (out_after.faults ≡ out.faults)
-    × IfSome input.content (λ bytes. (text : List ℕ) × IsRunText bytes text
-    × Added text out.content out_after.content)
-IsFarmRun (Err (BadLine n)) input input_after out out_after =
-    IsRefused (BadLine n) input input_after out out_after
-IsFarmRun (Err (DuplicateAddress n)) input input_after out out_after =
-    IsRefused (DuplicateAddress n) input input_after out out_after
-IsFarmRun (Err (ScopedAddress n)) input input_after out out_after =
-    IsRefused (ScopedAddress n) input input_after out out_after
-IsFarmRun (Err ReadFault) input input_after out out_after = Rose input.faults input_after.faults
-    × (out_after ≡ out) × IsReadInPart input input_after
-IsFarmRun (Err WriteFault) input input_after out out_after = IsReadWhole input input_after
-    × Rose out.faults out_after.faults
-    × IfSome input.content (λ bytes. (text : List ℕ) × IsRunText bytes text
-    × Began text out.content out_after.content)
-IsFarmRun (Err Memory) input input_after out out_after = (input_after.faults ≡ input.faults)
-    × (out_after ≡ out) × IsReadInPart input input_after
-IsFarmRun (Err other) input input_after out out_after = ⊥
+IsFarmRun result input input_after out out_after = IsRun farm_runs result input input_after out out_after
 
 -- ---- the storm
 
@@ -116,17 +102,20 @@ IsStormRun n (Err other) out out_after = ⊥
 
 -- ---- keys and tokens
 
--- The line of the command was written; or a front of it, and out failed; or its key is not base64url.
+-- The line of the command was written; or a front of it, and out failed; and the random words that it takes were
+-- drawn. Or its key is not base64url, and none was. Where memory ran out, nothing was written, and what the line
+-- takes was drawn or nothing.
 abbrev pub IsAuthRun : AuthSubcommand → Result ⊤ FarmFault → Stream → Stream → Side → Side → Type 0
 IsAuthRun auth (Ok x) random random_after out out_after = (line : List ℕ)
     × (auth_line auth random ≡ Some line) × (random_after ≡ stream_left auth random)
     × Added line out.content out_after.content × (out_after.faults ≡ out.faults)
 IsAuthRun auth (Err WriteFault) random random_after out out_after = (line : List ℕ)
-    × (auth_line auth random ≡ Some line)
+    × (auth_line auth random ≡ Some line) × (random_after ≡ stream_left auth random)
     × Began line out.content out_after.content × Rose out.faults out_after.faults
 IsAuthRun auth (Err (BadConfig (Key key))) random random_after out out_after = (auth_line auth random ≡ None)
-    × (key ≡ codes "secret_key") × (out_after ≡ out)
-IsAuthRun auth (Err Memory) random random_after out out_after = out_after ≡ out
+    × (key ≡ codes "secret_key") × (random_after ≡ random) × (out_after ≡ out)
+IsAuthRun auth (Err Memory) random random_after out out_after = (out_after ≡ out)
+    × ((random_after ≡ random) ⊎ (random_after ≡ stream_left auth random))
 IsAuthRun auth (Err other) random random_after out out_after = ⊥
 
 -- ---- serving

@@ -1,8 +1,6 @@
 //! The command.
-ghost use Rattle.std.specs.Prelude.{◌≡◌, ◌≢◌, ◌≤◌, ◌⊎◌, ℕ, map, string_bytes, IfOk, IfErr, IfSome, OnOk};
-ghost use Rattle.std.specs.Prelude.{OnErr, Some, None, Ok, Err};
-ghost use Rattle.std.specs.Vec.Iter.{into_iter_items};
-ghost use Rattle.std.specs.IoError.{error_kind};
+ghost use Rattle.std.specs.Prelude.{◌≡◌, ◌≢◌, ◌≤◌, ◌⊎◌, ℕ, map, string_bytes, IfOk, IfErr, IfSome};
+ghost use Rattle.std.specs.Prelude.{OnErr, List, Option, Some, None, Ok, Err};
 ghost use Rattle.dist_types.specs.Cause.{Rose};
 ghost use Rattle.dist_types.specs.Content.{TookAtMost, left_behind};
 ghost use Rattle.dist_config.specs.Serve.{scheduler_call, server_call};
@@ -12,13 +10,15 @@ ghost use Rattle.line_program.specs.declared.fault.FarmFault.{FarmFault as Fault
 ghost use Rattle.line_program.specs.declared.fault.FarmFault.TheVariants as fault;
 ghost use Rattle.line_program.specs.declared.fault.ConfigCause.{ConfigCause as Cause};
 ghost use Rattle.command_line.specs.Asked.{Invocation, asked_by, audit, farm, storm};
+ghost use Rattle.command_line.specs.Need.{needed_by};
 ghost use Rattle.command_line.specs.Parsed.{command_in};
-ghost use Rattle.line_program.specs.Report.{IsTold};
+ghost use Rattle.line_program.specs.Program.{IsEnough, HasRun};
+ghost use Rattle.line_program.specs.Report.{IsReported};
 ghost use Rattle.line_program.specs.Side.{side};
 ghost use Rattle.line_program.specs.declared.why.Why.{Why};
 ghost use Rattle.audit.specs.Held.{IsHeld};
 ghost use Rattle.farm.specs.Audited.{IsRefusedFor};
-ghost use Rattle.farm.specs.Command.{IsFarmRun, IsAuthRun, IsStarted, IsCarriedOut, IsDone};
+ghost use Rattle.farm.specs.Command.{farm_runs, IsAuthRun, IsStarted, IsCarriedOut, IsDone};
 ghost use Rattle.farm.specs.Command.{IsAnswered, fileless, moment, program_name, serving};
 
 use crate::audit_run::run_audit;
@@ -28,6 +28,7 @@ use audit::laws::{refusals_are_first_faults, what_holds_is_held};
 use command_line::command::{AuthSubcommand, Command};
 use command_line::files::Files;
 use command_line::line::auth_line;
+use command_line::need::Need;
 use command_line::parse::try_parse_from;
 use dist_config::config::{SchedulerConfig, ServerConfig};
 use dist_config::serve::Serve;
@@ -35,27 +36,21 @@ use dist_config::start::{Scheduler, Server};
 use dist_types::sink::{Sink, write_all};
 use dist_types::source::Source;
 use line_program::fault::FarmFault;
-use line_program::input::read_input;
+use line_program::program::{Program, run_input};
 use line_program::report::report;
+pub use line_program::words::words_given;
 use rand_core::Rng;
-use std::alloc::{AllocError, Global};
-use std::env::Args;
-use std::io::{self, ErrorKind};
+use std::alloc::Global;
 
 /// What stands in front of each fault.
 const PROGRAM: &str = "sccache-dist";
 
-/// Reads a script and writes the text of its run.
-fn run_farm<S: Source, K: Sink>(alloc: Global, input: &mut S, out: &mut K) -> Result<(), FarmFault>
-    ensures run { IsFarmRun result
-        (side S.left S.faults input.old) (side S.left S.faults input.new)
-        (side K.held K.faults out.old) (side K.held K.faults out.new) }
+/// Runs a script that was read, and writes the text of its run.
+fn run_script<K: Sink>(alloc: Global, bytes: &[u8], out: &mut K) -> Result<(), FarmFault>
+    ensures run { (content : Option (List ℕ)) → IsEnough bytes.now content
+        → HasRun farm_runs result content (side K.held K.faults out.old) (side K.held K.faults out.new) }
 {
-    let bytes = match read_input(alloc, input) {
-        Ok(bytes) => bytes,
-        Err(fault) => return Err(fault),
-    };
-    let text = match run_of(alloc, &bytes) {
+    let text = match run_of(alloc, bytes) {
         Ok(text) => text,
         Err(fault) => return Err(fault),
     };
@@ -65,7 +60,23 @@ fn run_farm<S: Source, K: Sink>(alloc: Global, input: &mut S, out: &mut K) -> Re
     }
 }
 
+/// The farm command, as a program over lines.
+struct Farms;
+
+impl Program for Farms {
+    ghost runs = { farm_runs };
+
+    fn name() -> &'static str {
+        PROGRAM
+    }
+
+    fn run<K: Sink>(alloc: Global, bytes: &[u8], out: &mut K) -> Result<(), FarmFault> {
+        run_script(alloc, bytes, out)
+    }
+}
+
 /// Writes the line of a command for an authority.
+#[tactic(auto, using(crate::proofs::AuthLemmas::no_line))]
 fn run_auth<K: Sink, R: Rng>(
     alloc: Global,
     auth: &AuthSubcommand,
@@ -123,7 +134,7 @@ fn carry_out<S: Source, K: Sink, R: Rng, N: Serve>(
         (serving N.calls N.faults serve.new)) }
 {
     match command {
-        Command::Farm => run_farm(alloc, input, out),
+        Command::Farm => run_input::<Farms, S, K>(alloc, input, out),
         Command::Audit => run_audit(alloc, input, out),
         Command::Storm(count) => run_storm(alloc, count, out),
         Command::Auth(auth) => run_auth(alloc, &auth, random, out),
@@ -224,6 +235,11 @@ pub fn dist_main<S: Source, K: Sink, E: Sink, D: Files, R: Rng, N: Serve>(
         → (result ≡ 6) ⊎ (result ≡ 3) ⊎ (result ≡ 5)) }
     // What serves fails in no status but 7, or 5 where errs failed.
     ensures served { result ≢ 7 → result ≢ 5 → N.faults serve.new ≡ N.faults serve.old }
+    // Random words are drawn for words that need them alone, and only words that need what serves ask for it.
+    ensures undrawn { needed_by (map string_bytes words.now) ≢ Need.RandomWords
+        → R.stream random.new ≡ R.stream random.old }
+    ensures unserved { needed_by (map string_bytes words.now) ≢ Need.Serving
+        → (N.calls serve.new ≡ N.calls serve.old) × (N.faults serve.new ≡ N.faults serve.old) }
 {
     let done = run_words(alloc, words, input, out, files, random, serve);
     what_holds_is_held();
@@ -231,30 +247,11 @@ pub fn dist_main<S: Source, K: Sink, E: Sink, D: Files, R: Rng, N: Serve>(
     report(alloc, PROGRAM, done, errs)
 }
 
-/// The fault of a command line that the system did not give as words.
-fn words_fault(kind: ErrorKind) -> FarmFault
-    ensures memory { kind ≡ ErrorKind.OutOfMemory → result ≡ fault.Memory }
-    ensures usage { kind ≢ ErrorKind.OutOfMemory → result ≡ fault.Usage }
-{
-    if kind == ErrorKind::OutOfMemory {
-        FarmFault::Memory
-    } else {
-        FarmFault::Usage
-    }
-}
-
-/// The words of the command line.
-fn words_in(alloc: Global, args: Args) -> Result<Vec<String>, AllocError>
-    ensures words { IfOk result (λ words. words.items ≡ into_iter_items args) }
-{
-    args.collect(alloc)
-}
-
-/// The command over the words that the system gave, or did not give: a word that is not UTF-8 is told as
-/// words that name no command, and want of memory as that; then nothing but errs is touched.
+/// The command over the words that were given. Where there are none, because the system gave none or not what
+/// they need, that fault is told, and nothing but errs is touched.
 pub fn run_command_line<S: Source, K: Sink, E: Sink, D: Files, R: Rng, N: Serve>(
     alloc: Global,
-    given: io::Result<Args>,
+    given: Result<Vec<String>, FarmFault>,
     input: &mut S,
     out: &mut K,
     errs: &mut E,
@@ -262,30 +259,22 @@ pub fn run_command_line<S: Source, K: Sink, E: Sink, D: Files, R: Rng, N: Serve>
     random: &mut R,
     serve: &mut N,
 ) -> u8
-    // What `dist_main` answers of these words, unless memory ran out before.
-    ensures given { IfOk given (λ args. IsAnswered result (record {
-      words = map string_bytes (into_iter_items args);
+    // What `dist_main` answers of these words.
+    ensures given { IfOk given (λ words. IsAnswered result (record {
+      words = map string_bytes words.items;
       before = moment (side S.left S.faults input.old) (side K.held K.faults out.old) (D.files files.old)
           (D.faults files.old) (R.stream random.old) (serving N.calls N.faults serve.old);
       after = moment (side S.left S.faults input.new) (side K.held K.faults out.new) (D.files files.new)
           (D.faults files.new) (R.stream random.new) (serving N.calls N.faults serve.new);
-    }) (side E.held E.faults errs.old) (side E.held E.faults errs.new)
-        ⊎ ((input.new ≡ input.old) × (out.new ≡ out.old) × (files.new ≡ files.old)
-        × (random.new ≡ random.old) × (serve.new ≡ serve.old) × IsTold program_name fault.Memory result
-        (side E.held E.faults errs.old) (side E.held E.faults errs.new))) }
-    // Where the system gave no words, memory ran out, or a word is not UTF-8.
-    ensures memory { IfErr given (λ e. error_kind e ≡ ErrorKind.OutOfMemory → IsTold program_name fault.Memory result
-        (side E.held E.faults errs.old) (side E.held E.faults errs.new)) }
-    ensures usage { IfErr given (λ e. error_kind e ≢ ErrorKind.OutOfMemory → IsTold program_name fault.Usage result
+    }) (side E.held E.faults errs.old) (side E.held E.faults errs.new)) }
+    // Why there are none, or want of memory in place of a fault that names a line or a key.
+    ensures told { IfErr given (λ f. IsReported program_name (Err f) result
         (side E.held E.faults errs.old) (side E.held E.faults errs.new)) }
     ensures untouched { OnErr given ((input.new ≡ input.old) × (out.new ≡ out.old) × (files.new ≡ files.old)
         × (random.new ≡ random.old) × (serve.new ≡ serve.old)) }
 {
     match given {
-        Ok(args) => match words_in(alloc, args) {
-            Ok(words) => dist_main(alloc, &words, input, out, errs, files, random, serve),
-            Err(_) => report(alloc, PROGRAM, Err(FarmFault::Memory), errs),
-        },
-        Err(error) => report(alloc, PROGRAM, Err(words_fault(error.kind())), errs),
+        Ok(words) => dist_main(alloc, &words, input, out, errs, files, random, serve),
+        Err(fault) => report(alloc, PROGRAM, Err(fault), errs),
     }
 }

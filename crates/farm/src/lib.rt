@@ -8,13 +8,14 @@
 //! are exported again from the crates below.
 #![tactic(auto)]
 
-pub use command_line::{files, line, option_words, parse, read, token_length};
+pub use command_line::{files, line, need, option_words, parse, read, token_length};
 pub use dist_config::{config, serve, start};
-pub use farm_run::{begin, builder, entry, print, run, site};
-pub use farm_script::{event, lines, script, setup};
+pub use farm_run::{begin, build_row, builder, entry, print, run, site};
+pub use farm_script::{event, reader, script, setup};
 pub use line_program::{fault, pieces};
 
 mod audit_run;
 pub mod command;
+pub mod lines;
 mod script_run;
 mod storm_run;

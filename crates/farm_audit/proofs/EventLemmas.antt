@@ -11,7 +11,8 @@ use Rattle.line_program.specs.Pieces.{text_of, pieces}
 use Rattle.farm_script.specs.Words.{is_visible}
 use Rattle.farm_script.specs.Grammar.{HasKeyLength, IsAddrWord, IsKind, IsLine}
 use Rattle.farm_script.specs.Place.{event_in}
-use Rattle.farm_script.specs.Spelled.{EachLine, SpellsScript}
+use Rattle.line_program.specs.FirstFaulty.{EachLine}
+use Rattle.farm_script.specs.Spelled.{SpellsScript}
 use Rattle.farm_script.specs.declared.event.Event.{Event}
 use Rattle.farm_script.specs.declared.event.EventKind.{EventKind}
 use Rattle.farm_script.specs.declared.event.EventKind.TheVariants as event
@@ -99,7 +100,7 @@ line_keyed t lines.Skip is = tt
 line_keyed t (lines.Setup s) is = tt
 line_keyed t (lines.Event e) is = key_fits is.kind e.kind is.is_kind
 
-lines_keyed : (ps : List (List ℕ)) (ls : List Line) → EachLine ps ls → Each Keyed (filter_map event_in ls)
+lines_keyed : (ps : List (List ℕ)) (ls : List Line) → EachLine IsLine ps ls → Each Keyed (filter_map event_in ls)
 lines_keyed [] [] each = tt
 lines_keyed (p ∷ ps) (l ∷ ls) each =
     each_cons Keyed (event_in l) (filter_map event_in ls) (line_keyed (text_of p) l each.0)

@@ -1,8 +1,12 @@
 -- What a run leaves outside of the servers.
-use Rattle.std.specs.Prelude.{◌≡◌, ◌⊎◌, ℕ, List, [], ◌∷◌, ◌++◌, slice_get, set, true, false, is_some, Option}
-use Rattle.std.specs.Prelude.{Some, None, codes}
+use Rattle.std.specs.Prelude.{◌≡◌, ◌≤◌, ◌⊎◌, ℕ, List, [], ◌∷◌, ◌++◌, length, slice_get, set, true, false}
+use Rattle.std.specs.Prelude.{is_some, Option, Some, None, codes}
+use Rattle.dist_types.specs.Builder.{Built}
+use Rattle.dist_types.specs.Content.{Recorded}
 use Rattle.toolchain_cache.specs.Archives.{Archives, IsInStep, opened_archives}
-use Rattle.folders.specs.Held.{Held, Holds}
+use Rattle.folders.specs.Changed.{ButUnder}
+use Rattle.folders.specs.Files.{front}
+use Rattle.folders.specs.Held.{Held, Holds, Became}
 use Rattle.build_server.specs.Books.{Fails}
 use Rattle.build_server.specs.Builds.{Builder}
 use Rattle.dist_types.specs.declared.addr.Addr.{Addr}
@@ -18,7 +22,7 @@ use Rattle.farm_entries.specs.declared.entry.StepKind.{StepKind}
 use Rattle.farm_entries.specs.declared.entry.StepKind.TheVariants as step
 use Rattle.farm_entries.specs.Next.{IsNext}
 use Rattle.farm_entries.specs.Servers.{server_at, server_of}
-use Rattle.farm_entries.specs.Weather.{Outside, Weather, calm, weather_of}
+use Rattle.farm_entries.specs.Weather.{Outside, Weather, calm, weather_of, OnlyClears}
 
 -- ---- which server's folder and builder an event may reach
 
@@ -54,18 +58,42 @@ abbrev pub IsBegun : ℕ → Option Builder → Held → Option Archives → Out
 IsBegun capacity builder folder (Some list) new =
     Holds folder (λ files. list ≡ opened_archives (codes "tc") capacity files)
     × (new.failed ≡ false) × (new.folder.faults ≡ folder.faults) × (new.builder ≡ builder)
+    × OnlyClears folder new.folder
 IsBegun capacity builder folder None new =
     Fails folder new.folder × (new.failed ≡ true) × (new.builder ≡ builder) × (is_some builder ≡ true)
+    × OnlyClears folder new.folder
 
 -- ---- what an entry leaves
 
--- a builder that the farm made stays one, and so does one that was handed in
-abbrev pub StaysOwn : Outside → Outside → Type 0
-StaysOwn old new = is_some new.builder ≡ is_some old.builder
+-- What no event changes outside of a server, and so no run: a builder that the farm made stays one, and so does
+-- one that was handed in; each file outside of the directory of the archives is as it was, where files are
+-- told; the count of the folder never falls; and the folder is one that failed only where it was, or did.
+pub record Stays (old new : Outside) : Type 0 where
+  pub own : is_some new.builder ≡ is_some old.builder
+  pub others : Became (ButUnder (front (codes "tc"))) old.folder.files new.folder.files
+  pub later : old.folder.faults ≤ new.folder.faults
+  pub cause : new.failed ≡ true → (old.failed ≡ true) ⊎ Fails old.folder new.folder
+
+-- a builder was called at most once: its record is the old one or has one row more, and its count of refusals
+-- has not fallen
+pub record IsAsked (old new : Builder) : Type 0 where
+  pub rows : (new.rows ≡ old.rows) ⊎ ((row : Built) × Recorded row old.rows new.rows)
+  pub later : old.refusals ≤ new.refusals
+
+-- the same of one that was handed in, if any
+abbrev pub AsksOnce : Option Builder → Option Builder → Type 0
+AsksOnce None new = new ≡ None
+AsksOnce (Some old) None = ⊥
+AsksOnce (Some old) (Some new) = IsAsked old new
+
+-- what one event leaves outside of the server that it reaches for
+pub record Leaves (old new : Outside) : Type 0 where
+  pub stays : Stays old new
+  pub asked : AsksOnce old.builder new.builder
 
 abbrev pub LeavesTo : Option Addr → Outside → Outside → Type 0
 LeavesTo None old new = new ≡ old
-LeavesTo (Some addr) old new = StaysOwn old new
+LeavesTo (Some addr) old new = Leaves old new
 
 -- what a step leaves outside of its server
 abbrev pub LeavesOutside : Option Step → Outside → Outside → Type 0
@@ -92,7 +120,7 @@ pub record MovesAt (setup : Setup) (addr : Addr) (w : Weather) (old new : List O
   pub before : slice_get old place ≡ Some was
   pub left : new ≡ set old place is
   pub weather : w ≡ weather_of was is
-  pub own : StaysOwn was is
+  pub leaves : Leaves was is
 
 -- the same where an event restarts no server of the farm
 pub record IsNobody (setup : Setup) (addr : Addr) (w : Weather) (old new : List Outside) : Type 0 where
@@ -116,6 +144,12 @@ Passage setup log old (event ∷ events) (e ∷ es) new =
     × Passage setup (log ++ e ∷ []) mid events es new
 Passage setup log old [] (e ∷ es) new = ⊥
 Passage setup log old (event ∷ events) [] new = ⊥
+
+-- what a run leaves outside of all servers
+pub record AllStay (old new : List Outside) : Type 0 where
+  pub size : length new ≡ length old
+  pub each : (i : ℕ) (was is : Outside) → slice_get old i ≡ Some was → slice_get new i ≡ Some is
+      → Stays was is
 
 -- Each server that runs, and whose folder did not fail since its last opening began, lists what its folder
 -- holds: the archives among the files below the path of its cache are those that it lists, in their order,

@@ -1,8 +1,10 @@
 -- What may come to a server from outside of a farm: from its folder and from its builder.
-use Rattle.std.specs.Prelude.{◌≡◌, ℕ, List, Bool, true, false, Option, Some, None, Ok, codes}
-use Rattle.dist_types.specs.Builder.{Built}
+use Rattle.std.specs.Prelude.{◌≡◌, ◌≤◌, ℕ, List, Bool, true, false, Option, Some, None, Ok, codes}
 use Rattle.toolchain_cache.specs.Archives.{Archives, opened_archives}
-use Rattle.folders.specs.Held.{Held, Holds}
+use Rattle.dist_types.specs.Builder.{Built}
+use Rattle.folders.specs.Changed.{OnlyRemoved, ButUnder}
+use Rattle.folders.specs.Files.{front}
+use Rattle.folders.specs.Held.{Held, Holds, Became}
 use Rattle.dist_types.specs.declared.ids.JobId.{JobId}
 use Rattle.dist_wire.specs.declared.run.RunJobHttpRequest.{RunJobHttpRequest}
 use Rattle.build_server.specs.Books.{Books, held_for, Fails}
@@ -123,6 +125,13 @@ Works (between a b) s found run inputs o = Worked a b s found (order_of run inpu
 
 -- ---- restarts
 
+-- what an opening leaves of a folder: it removes files at most, and none outside of the directory of the
+-- archives, where files are told; the count never falls
+pub record OnlyClears (old new : Held) : Type 0 where
+  pub removed : Became OnlyRemoved old.files new.files
+  pub others : Became (ButUnder (front (codes "tc"))) old.files new.files
+  pub later : old.faults ≤ new.faults
+
 -- An opening may come to this: to what was there before; where the folder failed since the last opening
 -- began, to what its files give; and to none where the folder fails in it. Where files are not told, the list
 -- is open.
@@ -131,7 +140,9 @@ OpensBetween a b s (Some list) =
     Holds a.folder (λ files. list ≡ opened_archives (codes "tc") s.setup.capacity files)
     × Holds a.folder (λ files. s.running ≡ true → a.failed ≡ false → list ≡ s.archives)
     × (b.failed ≡ false) × (b.folder.faults ≡ a.folder.faults) × (b.builder ≡ a.builder)
+    × OnlyClears a.folder b.folder
 OpensBetween a b s None = Fails a.folder b.folder × (b.failed ≡ true) × (b.builder ≡ a.builder)
+    × OnlyClears a.folder b.folder
 
 abbrev pub Opens : Weather → ServerNow → Option Archives → Type 0
 Opens calm s o = o ≡ Some s.archives

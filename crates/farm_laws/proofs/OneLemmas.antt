@@ -169,7 +169,7 @@ pub record Agrees (v w : Weather) : Type 0 where
       (o p : Outcome) → Works v s found run inputs o → Works w s found run inputs p → o ≡ p
   pub opens : (s : ServerNow) (o p : Option Archives) → Opens v s o → Opens w s p → o ≡ p
 
-calm_agrees : Agrees calm calm
+pub calm_agrees : Agrees calm calm
 calm_agrees = record {
   stores = λ s job bytes o p a b. a ∙ sym b;
   works = λ s found run inputs o p a b. a ∙ sym b;

@@ -163,7 +163,7 @@ works_so a b c rows s (Some tc) order o p told other x y =
 
 -- ---- entries
 
-told_agrees : (a b c : Outside) (rows : List Built) → IsTold a b rows → IsTold a c rows
+pub told_agrees : (a b c : Outside) (rows : List Built) → IsTold a b rows → IsTold a c rows
     → Agrees (between a b) (between a c)
 told_agrees a b c rows told other = record {
   stores = λ s job bytes o p x y.

@@ -19,6 +19,7 @@ use Rattle.farm_script.specs.declared.setup.SetupServer.{SetupServer as Script}
 use Rattle.farm_entries.specs.declared.site.SiteServer.{SiteServer}
 use Rattle.farm_run.specs.Begins.{IsBegunAs, AreBegun}
 use Rattle.farm_entries.specs.Passage.{AreOwn}
+use Rattle.farm_stations.specs.Hands.{Hand, fresh_hand}
 use Rattle.farm_stations.specs.Post.{Post, outside_of}
 use Rattle.farm_entries.specs.Servers.{server_begun}
 use Rattle.farm_entries.specs.Sites.{site_server}
@@ -36,13 +37,13 @@ pub length_end : {A : Type 0} (xs : List A) (x : A) → length (xs ++ x ∷ []) 
 length_end [] x = refl
 length_end (y ∷ ys) x = omega (arith, length_end ys x)
 
-get_left : {A : Type 0} (xs : List A) (x : A) (i : ℕ) → i < length xs → slice_get (xs ++ x ∷ []) i
+pub get_left : {A : Type 0} (xs : List A) (x : A) (i : ℕ) → i < length xs → slice_get (xs ++ x ∷ []) i
     ≡ slice_get xs i
 get_left [] x i h = absurd (omega arith)
 get_left (y ∷ ys) x zero h = refl
 get_left (y ∷ ys) x (suc i) h = get_left ys x i (omega arith)
 
-get_end : {A : Type 0} (xs : List A) (x y : A) (i : ℕ) → length xs ≤ i → slice_get (xs ++ x ∷ []) i ≡ Some y
+pub get_end : {A : Type 0} (xs : List A) (x y : A) (i : ℕ) → length xs ≤ i → slice_get (xs ++ x ∷ []) i ≡ Some y
     → (i ≡ length xs) × (x ≡ y)
 get_end [] x y zero h e = (refl, same_Some x y e)
 get_end [] x y (suc i) h e = absurd cc
@@ -53,7 +54,7 @@ get_end (z ∷ zs) x y (suc i) h e =
 
 -- ---- servers of the farm's own
 
-own_end : (os : List Outside) (o : Outside) → AreOwn os → o.builder ≡ None → (i : ℕ) (x : Outside)
+pub own_end : (os : List Outside) (o : Outside) → AreOwn os → o.builder ≡ None → (i : ℕ) (x : Outside)
     → slice_get (os ++ o ∷ []) i ≡ Some x → x.builder ≡ None
 own_end [] o own none zero x at = subst (λ (y : Outside). y.builder ≡ None) (same_Some o x at) none
 own_end [] o own none (suc i) x at = absurd cc
@@ -65,17 +66,23 @@ pub record OwnSoFar (ss : List Script) (ts : List SiteServer) (sts : List Post) 
   pub sites : ts ≡ map (site_server (Some [])) ss
   pub stations : AreStations ts [] sts
   pub own : AreOwn (map outside_of sts)
+  pub hands : map (λ st. st.hand) sts ≡ map (λ s. fresh_hand s.builder) ss
 
 pub own_push : (ss : List Script) (ts : List SiteServer) (sts : List Post) (s : Script) (t : SiteServer)
     (st : Post) → OwnSoFar ss ts sts → t ≡ site_server (Some []) s → now_of t st ≡ server_begun t
-    → IsWell t st → st.builder ≡ None → OwnSoFar (ss ++ s ∷ []) (ts ++ t ∷ []) (sts ++ st ∷ [])
-own_push ss ts sts s t st is site now well none = record {
+    → IsWell t st → st.builder ≡ None → st.hand ≡ fresh_hand s.builder
+    → OwnSoFar (ss ++ s ∷ []) (ts ++ t ∷ []) (sts ++ st ∷ [])
+own_push ss ts sts s t st is site now well none hand = record {
   sites = ap (λ (us : List SiteServer). us ++ t ∷ []) is.sites
       ∙ ap (λ (u : SiteServer). map (site_server (Some [])) ss ++ u ∷ []) site
       ∙ sym (map_end (site_server (Some [])) ss s);
   stations = stations_push [] ts sts t st is.stations (record { now = now; well = well });
   own = subst AreOwn (sym (map_end outside_of sts st))
       (own_end (map outside_of sts) (outside_of st) is.own none);
+  hands = map_end (λ (x : Post). x.hand) sts st
+      ∙ ap (λ (hs : List Hand). hs ++ st.hand ∷ []) is.hands
+      ∙ ap (λ (h : Hand). map (λ (x : Script). fresh_hand x.builder) ss ++ h ∷ []) hand
+      ∙ sym (map_end (λ (x : Script). fresh_hand x.builder) ss s);
 }
 
 -- ---- servers over what is handed in

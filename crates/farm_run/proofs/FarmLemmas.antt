@@ -2,7 +2,7 @@
 use Rattle.std.proofs.Common.{◌≡◌, ℕ, ◌<◌, ◌^◌, List, [], ◌∷◌, ◌++◌, map, Result, Ok, Err, ap, ◌∙◌, sym}
 use Rattle.std.proofs.Common.{subst, append_assoc}
 use Rattle.std.specs.Prelude.{IfOk}
-use Rattle.build_server.specs.Builds.{Builder}
+use Rattle.farm_stations.specs.Hands.{Hand}
 use Rattle.folders.specs.Held.{Held}
 use Rattle.farm_script.specs.declared.event.Event.{Event}
 use Rattle.farm_script.specs.declared.event.EventKind.{EventKind}
@@ -35,16 +35,22 @@ use Rattle.farm_laws.proofs.ShownLemmas.{has_token}
 pub Runs-push : (old : Farmed) (events : List Event) (event : Event) (mid new : Farmed) (w : Weather)
     (e : Entry)
     → Runs old events mid → IsNext w mid.setup mid.entries event e
-    → IsMoved mid.setup e w mid.outside new.outside → new ≡ with_entries mid (e ∷ []) new.outside
+    → IsMoved mid.setup e w mid.outside new.outside → new ≡ with_entries mid (e ∷ []) new.outside new.hands
     → Runs old (events ++ event ∷ []) new
 Runs-push old events event mid new w e (entries, passage, mid_is) is moved new_is =
     let next : IsNext w old.setup (old.entries ++ entries) event e =
     subst (λ (m : Farmed). IsNext w m.setup m.entries event e) mid_is is in
     let moves : IsMoved old.setup e w mid.outside new.outside =
     subst (λ (s : Site). IsMoved s e w mid.outside new.outside) (ap (λ (m : Farmed). m.setup) mid_is) moved in
-    let end : with_entries mid (e ∷ []) new.outside ≡ with_entries old (entries ++ e ∷ []) new.outside =
-    ap (λ (m : Farmed). with_entries m (e ∷ []) new.outside) mid_is
-    ∙ ap (λ (es : List Entry). record { setup = old.setup; entries = es; outside = new.outside })
+    let end : with_entries mid (e ∷ []) new.outside new.hands
+    ≡ with_entries old (entries ++ e ∷ []) new.outside new.hands =
+    ap (λ (m : Farmed). with_entries m (e ∷ []) new.outside new.hands) mid_is
+    ∙ ap (λ (es : List Entry). record {
+      setup = old.setup;
+      entries = es;
+      outside = new.outside;
+      hands = new.hands;
+    })
     (append_assoc old.entries entries (e ∷ [])) in (
       entries ++ e ∷ [],
       passage-push old.setup old.entries old.outside events entries mid.outside new.outside event w e passage
@@ -55,11 +61,16 @@ Runs-push old events event mid new w e (entries, passage, mid_is) is moved new_i
 -- the entries of a run, where they were handed back
 pub Runs-entries : (old : Farmed) (events : List Event) (mid : Farmed) (entries : List Entry)
     → Runs old events mid → entries ≡ mid.entries
-    → Runs old events (record { setup = old.setup; entries = entries; outside = mid.outside })
+    → Runs old events (record { setup = old.setup; entries = entries; outside = mid.outside; hands = mid.hands })
 Runs-entries old events mid entries run same = (
   run.0,
   run.1,
-  ap (λ (es : List Entry). record { setup = old.setup; entries = es; outside = mid.outside })
+  ap (λ (es : List Entry). record {
+    setup = old.setup;
+    entries = es;
+    outside = mid.outside;
+    hands = mid.hands;
+  })
       (same ∙ ap (λ (m : Farmed). m.entries) run.2),
 )
 
@@ -73,13 +84,13 @@ Runs-is old events mid entries run same is =
 
 -- what is handed back of them, said of the farm that the run began with
 pub Runs-back : (old : Farmed) (events : List Event) (mid : Farmed) (entries : List Entry) (k : EventKind)
-    (folders : List Held) (builders : List Builder) → Runs old events mid → entries ≡ mid.entries
-    → AreHandedBack mid.setup mid.entries k mid.outside folders builders
-    → AreHandedBack old.setup entries k mid.outside folders builders
-Runs-back old events mid entries k folders builders run same back =
-    subst (λ (s : Site). AreHandedBack s entries k mid.outside folders builders)
+    (folders : List Held) (Given : List Hand → Type 0) → Runs old events mid → entries ≡ mid.entries
+    → AreHandedBack mid.setup mid.entries k mid.outside mid.hands folders Given
+    → AreHandedBack old.setup entries k mid.outside mid.hands folders Given
+Runs-back old events mid entries k folders Given run same back =
+    subst (λ (s : Site). AreHandedBack s entries k mid.outside mid.hands folders Given)
     (ap (λ (m : Farmed). m.setup) run.2)
-    (subst (λ (es : List Entry). AreHandedBack mid.setup es k mid.outside folders builders) (sym same) back)
+    (subst (λ (es : List Entry). AreHandedBack mid.setup es k mid.outside mid.hands folders Given) (sym same) back)
 
 -- a farm that made its folders and builders itself stays one
 pub Runs-own : (old : Farmed) (events : List Event) (new : Farmed) → Runs old events new → AreOwn old.outside

@@ -1,10 +1,13 @@
 pub mod BeginLemmas
 pub mod CutLemmas
 pub mod FarmLemmas
+pub mod GoOnLemmas
 pub mod IdLemmas
 pub mod LineLemmas
 pub mod MadeLemmas
+pub mod OneWayLemmas
 pub mod PassageLemmas
+pub mod ResultLemmas
 pub mod RowLemmas
 pub mod ServeLemmas
 pub mod ServerLemmas

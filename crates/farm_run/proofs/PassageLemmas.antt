@@ -9,9 +9,10 @@ use Rattle.build_server.specs.Builds.{Builder}
 use Rattle.farm_script.specs.declared.event.Event.{Event}
 use Rattle.farm_entries.specs.declared.site.Site.{Site as Setup}
 use Rattle.farm_entries.specs.declared.entry.Entry.{Entry}
+use Rattle.farm_stations.specs.Hands.{Hand}
 use Rattle.farm_run.specs.Farm.{AddsNext, StepsTo}
 use Rattle.farm_entries.specs.Next.{IsNext, EachNext, IsRun}
-use Rattle.farm_entries.specs.Passage.{reached, StaysOwn, AreOwn, IsStill, Moves, IsMoved, Passage}
+use Rattle.farm_entries.specs.Passage.{reached, Stays, AreOwn, IsStill, Moves, IsMoved, Passage}
 use Rattle.farm_entries.specs.Weather.{Outside, Weather, calm, weather_by}
 use Rattle.farm_laws.proofs.RunLemmas.{IsRun-push}
 use Rattle.farm_run.proofs.ServerLemmas.{get_set_same, get_set_other, within}
@@ -22,14 +23,14 @@ no_builder : (o : Option Builder) → is_some o ≡ false → o ≡ None
 no_builder None e = refl
 no_builder (Some b) e = absurd (true≢false e)
 
-own_stays : (was is : Outside) → StaysOwn was is → was.builder ≡ None → is.builder ≡ None
-own_stays was is stays own = no_builder is.builder (stays ∙ ap (λ (o : Option Builder). is_some o) own)
+own_stays : (was is : Outside) → Stays was is → was.builder ≡ None → is.builder ≡ None
+own_stays was is stays own = no_builder is.builder (stays.own ∙ ap (λ (o : Option Builder). is_some o) own)
 
-own_came : (was is : Outside) → StaysOwn was is → is.builder ≡ None → was.builder ≡ None
-own_came was is stays own = no_builder was.builder (sym stays ∙ ap (λ (o : Option Builder). is_some o) own)
+own_came : (was is : Outside) → Stays was is → is.builder ≡ None → was.builder ≡ None
+own_came was is stays own = no_builder was.builder (sym stays.own ∙ ap (λ (o : Option Builder). is_some o) own)
 
 own_set : (old : List Outside) (place : ℕ) (was is : Outside) → AreOwn old → slice_get old place ≡ Some was
-    → StaysOwn was is → AreOwn (set old place is)
+    → Stays was is → AreOwn (set old place is)
 own_set old place was is own before stays = λ i o at. elim (cases_eq place i) [
   | inl same ↦
       let here : Some is ≡ Some o = sym (get_set_same old place is (within old place was before))
@@ -47,13 +48,13 @@ pub moves_own : (setup : Setup) (o : Option Addr) (w : Weather) (old new : List 
 moves_own setup None w old new is own = still_own w old new is own
 moves_own setup (Some addr) w old new (inl m) own = (
   m.weather ∙ ap (λ (o : Option Builder). weather_by o m.was m.is) (own m.place m.was m.before),
-  subst AreOwn (sym m.left) (own_set old m.place m.was m.is own m.before m.own),
+  subst AreOwn (sym m.left) (own_set old m.place m.was m.is own m.before m.leaves.stays),
 )
 moves_own setup (Some addr) w old new (inr m) own = still_own w old new m.still own
 
 -- what is the farm's own after an entry was so before it
 own_back : (old : List Outside) (place : ℕ) (was is : Outside) → AreOwn (set old place is)
-    → slice_get old place ≡ Some was → StaysOwn was is → AreOwn old
+    → slice_get old place ≡ Some was → Stays was is → AreOwn old
 own_back old place was is own before stays = λ i o at. elim (cases_eq place i) [
   | inl same ↦
       let here : was ≡ o = same_Some was o (sym before ∙ ap (slice_get old) same ∙ at) in
@@ -66,7 +67,7 @@ moves_back : (setup : Setup) (o : Option Addr) (w : Weather) (old new : List Out
     → Moves setup o w old new → AreOwn new → AreOwn old
 moves_back setup None w old new is own = subst AreOwn is.left own
 moves_back setup (Some addr) w old new (inl m) own =
-    own_back old m.place m.was m.is (subst AreOwn m.left own) m.before m.own
+    own_back old m.place m.was m.is (subst AreOwn m.left own) m.before m.leaves.stays
 moves_back setup (Some addr) w old new (inr m) own = subst AreOwn m.still.left own
 
 -- one entry more of such a farm is one in calm weather
@@ -123,14 +124,14 @@ passage-push setup log old (v ∷ vs) [] mid new event w e p next moved = absurd
 
 -- one entry more is a step of the farm
 pub step_of : (setup next : Setup) (old new : List Entry) (event : Event) (before after : List Outside)
-    → AddsNext setup old event new before after → next ≡ setup
-    → StepsTo (record { setup = setup; entries = old; outside = before }) event
-    (record { setup = next; entries = new; outside = after })
-step_of setup next old new event before after (w, e, is, moved, more) same = (
+    (had has : List Hand) → AddsNext setup old event new before after → next ≡ setup
+    → StepsTo (record { setup = setup; entries = old; outside = before; hands = had }) event
+    (record { setup = next; entries = new; outside = after; hands = has })
+step_of setup next old new event before after had has (w, e, is, moved, more) same = (
   w,
   e,
   is,
   moved,
-  ap (λ (s : Setup). record { setup = s; entries = new; outside = after }) same
-      ∙ ap (λ (l : List Entry). record { setup = setup; entries = l; outside = after }) more,
+  ap (λ (s : Setup). record { setup = s; entries = new; outside = after; hands = has }) same
+      ∙ ap (λ (l : List Entry). record { setup = setup; entries = l; outside = after; hands = has }) more,
 )

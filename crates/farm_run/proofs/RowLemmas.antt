@@ -555,7 +555,7 @@ restart_made_by setup s log ps sts new event addr key nonce m (Some place) is ki
       before = get_map outside_of sts place st.0 st.1;
       left = set_map outside_of sts place r.after;
       weather = refl;
-      own = r.so.own;
+      leaves = r.so.leaves;
     }) in
     let moves : IsMoved setup (entry_of event m.effect) w (map outside_of sts)
     (map outside_of (set sts place r.after)) =

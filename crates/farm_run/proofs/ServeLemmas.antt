@@ -215,6 +215,16 @@ spent_answers key_of token_for s new number at before json tc refusal x is long 
     answers s new number at before json (asked.Alloc tc) is.made told.0 x is.left long
     (spent_at key_of token_for json tc at s is.made refusal (Err refusal) told.0 is.gives refl told.1) told.2
 
+-- ---- what is kept
+
+-- nothing of what makes no call
+pub kept_none : {E : Type 0} (IsBegun : Made → Pending → Type 0) (r : Result Made E)
+    → IfOk r (λ m. (m.effect.call ≡ None) × (m.pending ≡ None))
+    → IfOk r (λ m. Keeps (IsBegun m) m.effect m.pending)
+kept_none IsBegun (Ok m) silent =
+    subst (λ (o : Option Pending). Keeps (IsBegun m) m.effect o) (sym silent.1) silent.0
+kept_none IsBegun (Err e) silent = tt
+
 -- ---- what was asked
 
 -- bytes ask for a drain by version 2 alone

@@ -146,7 +146,7 @@ all_at P [] i s all at = absurd cc
 all_at P (x ∷ xs) zero s all at = subst (λ (y : SetupServer). P y.addr) (same_Some x s at) all.0
 all_at P (x ∷ xs) (suc i) s all at = all_at P xs i s all.1 at
 
-apart_at : (xs : List SetupServer) (i j : ℕ) (s t : SetupServer) → AreApart (map (λ x. x.addr) xs)
+pub apart_at : (xs : List SetupServer) (i j : ℕ) (s t : SetupServer) → AreApart (map (λ x. x.addr) xs)
     → slice_get xs i ≡ Some s → slice_get xs j ≡ Some t → i ≢ j → s.addr ≢ t.addr
 apart_at [] i j s t apart at bt differ = absurd cc
 apart_at (x ∷ xs) zero zero s t apart at bt differ = absurd (differ refl)
@@ -336,7 +336,7 @@ stations_push log (t ∷ ts) (u ∷ us) s st are is =
 
 -- ---- a restart
 
-there_is : {X : Type 0} (xs : List X) (i : ℕ) → i < length xs → (x : X) × (slice_get xs i ≡ Some x)
+pub there_is : {X : Type 0} (xs : List X) (i : ℕ) → i < length xs → (x : X) × (slice_get xs i ≡ Some x)
 there_is [] i h = absurd (omega arith)
 there_is (x ∷ xs) zero h = (x, refl)
 there_is (x ∷ xs) (suc i) h = there_is xs i (omega (arith, h))

@@ -1,7 +1,7 @@
 -- What an event leaves of the stations, and outside of them.
 use Rattle.std.proofs.Common.{◌≡◌, inl, ℕ, zero, suc, Bool, cond, List, [], ◌∷◌}
 use Rattle.std.proofs.Common.{map, set, Option, Some, None, refl, sym, ap, subst, ◌∙◌}
-use Rattle.std.specs.Prelude.{slice_get, is_some}
+use Rattle.std.specs.Prelude.{slice_get}
 use Rattle.std.proofs.lemmas.Option.{same_Some}
 use Rattle.dist_types.specs.declared.addr.Addr.{Addr}
 use Rattle.core_rules.proofs.AddressLemmas.{same_self}
@@ -19,9 +19,11 @@ use Rattle.farm_entries.specs.declared.entry.StepKind.{StepKind}
 use Rattle.farm_entries.specs.declared.entry.StepKind.TheVariants as kinds
 use Rattle.farm_entries.specs.Effects.{entry_of}
 use Rattle.farm_run.specs.Farm.{Stands}
-use Rattle.farm_entries.specs.Passage.{reaches, reached_in, reached, LeavesTo, LeavesOutside, AreOwn, Moves}
+use Rattle.farm_entries.specs.Passage.{reaches, reached_in, reached, Leaves, LeavesTo, LeavesOutside}
+use Rattle.farm_entries.specs.Passage.{AreOwn, Moves}
 use Rattle.farm_entries.specs.Passage.{IsMoved}
-use Rattle.farm_stations.specs.Post.{Post as Station, outside_of}
+use Rattle.farm_stations.proofs.LeftLemmas.{leaves_same as leaves_itself}
+use Rattle.farm_stations.specs.Post.{Post as Station, around_of, outside_of}
 use Rattle.farm_entries.specs.Servers.{restart_by}
 use Rattle.farm_stations.specs.Stations.{AreStations, IsStepAt, HasApart}
 use Rattle.farm_entries.specs.Weather.{Outside, calm, weather_by, weather_of}
@@ -53,9 +55,15 @@ outside_kept sts place st after at same = set_map outside_of sts place after
     ∙ ap (set (map outside_of sts) place) same
     ∙ set_same (map outside_of sts) place (outside_of st) (get_map outside_of sts place st at)
 
+pub around_kept : (sts : List Station) (place : ℕ) (st after : Station) → slice_get sts place ≡ Some st
+    → around_of after ≡ around_of st → map around_of (set sts place after) ≡ map around_of sts
+around_kept sts place st after at same = set_map around_of sts place after
+    ∙ ap (set (map around_of sts) place) same
+    ∙ set_same (map around_of sts) place (around_of st) (get_map around_of sts place st at)
+
 leaves_to : (o : Option Addr) (old new : Outside) → new ≡ old → LeavesTo o old new
 leaves_to None old new same = same
-leaves_to (Some addr) old new same = ap (λ (x : Outside). is_some x.builder) same
+leaves_to (Some addr) old new same = subst (λ (o : Outside). Leaves old o) (sym same) (leaves_itself old)
 
 pub leaves_same : (step : Option Step) (old new : Outside) → new ≡ old → LeavesOutside step old new
 leaves_same step old new same = leaves_to (reached_in step) old new same
@@ -115,7 +123,7 @@ reaches_own (kinds.Finished job) server addr e = absurd cc
 reaches_own (kinds.Unreported job) server addr e = absurd cc
 reaches_own (kinds.Opened archives) server addr e = same_Some server addr e
 
-reached_own : (step : Option Step) (own addr : Addr) → IsStepOf own step → reached_in step ≡ Some addr
+pub reached_own : (step : Option Step) (own addr : Addr) → IsStepOf own step → reached_in step ≡ Some addr
     → own ≡ addr
 reached_own None own addr of e = absurd cc
 reached_own (Some step) own addr of e = sym of ∙ reaches_own step.kind step.server addr e
@@ -136,7 +144,7 @@ moves_by setup sts place s st after step None at bt of is leaves = record {
   left = outside_kept sts place st after bt leaves;
   own = own_calm sts place st after bt;
 }
-moves_by setup sts place s st after step (Some addr) at bt of is leaves = inl (record {
+moves_by setup sts place s st after step (Some addr) at bt of is left = inl (record {
   place = place;
   server = s;
   there = at;
@@ -146,7 +154,7 @@ moves_by setup sts place s st after step (Some addr) at bt of is leaves = inl (r
   before = get_map outside_of sts place st bt;
   left = set_map outside_of sts place after;
   weather = refl;
-  own = leaves;
+  leaves = left;
 })
 
 -- a step of the server at a place

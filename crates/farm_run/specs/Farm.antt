@@ -11,6 +11,7 @@ use Rattle.farm_entries.specs.declared.entry.Entry.{Entry}
 use Rattle.dist_types.specs.declared.addr.Addr.{Addr}
 use Rattle.farm_run.specs.declared.pending.Made.{Made}
 use Rattle.farm_entries.specs.declared.pending.Pending.{Pending}
+use Rattle.farm_stations.specs.Hands.{Hand}
 use Rattle.farm_stations.specs.Post.{Post as Station, outside_of}
 use Rattle.farm_entries.specs.Begun.{IsBegunBy, Keeps}
 use Rattle.farm_entries.specs.Builds.{AreSettledOnce, AreRanOnce}
@@ -26,18 +27,21 @@ use Rattle.farm_entries.specs.Waiting.{IsKept, kept_at, AreKept}
 use Rattle.farm_entries.specs.Seen.{with_core}
 use Rattle.farm_entries.specs.Lawful.{IsSound}
 
--- how the farm was set up, the entries so far, and what is outside of each server, in the order of the setup
+-- how the farm was set up, the entries so far, and of each server, in the order of the setup, what is outside of
+-- it and the builder that it asks
 pub record Farmed : Type 0 where
   pub setup : Setup
   pub entries : List Entry
   pub outside : List Outside
+  pub hands : List Hand
 
--- the farm with more entries, and that outside of its servers
-abbrev pub with_entries : Farmed → List Entry → List Outside → Farmed
-with_entries farm more outside = record {
+-- the farm with more entries, that outside of its servers, and those builders
+abbrev pub with_entries : Farmed → List Entry → List Outside → List Hand → Farmed
+with_entries farm more outside hands = record {
   setup = farm.setup;
   entries = farm.entries ++ more;
   outside = outside;
+  hands = hands;
 }
 
 -- ---- the calls that wait
@@ -101,13 +105,13 @@ AddsNext setup old event new before after = (w : Weather) × (e : Entry) × IsNe
 -- one event makes its entry
 abbrev pub StepsTo : Farmed → Event → Farmed → Type 0
 StepsTo old event new = (w : Weather) × (e : Entry) × IsNext w old.setup old.entries event e
-    × IsMoved old.setup e w old.outside new.outside × (new ≡ with_entries old (e ∷ []) new.outside)
+    × IsMoved old.setup e w old.outside new.outside × (new ≡ with_entries old (e ∷ []) new.outside new.hands)
 
 -- the farm has one more entry for each of the events, each next over those before it
 abbrev pub Runs : Farmed → List Event → Farmed → Type 0
 Runs old events new = (entries : List Entry)
     × Passage old.setup old.entries old.outside events entries new.outside
-    × (new ≡ with_entries old entries new.outside)
+    × (new ≡ with_entries old entries new.outside new.hands)
 
 -- Whatever the farm's words are, after each front of the entries a call is settled at most once, and no id has
 -- two ran steps behind an accepted start.

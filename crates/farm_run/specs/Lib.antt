@@ -1,6 +1,8 @@
+pub mod Alike
 pub mod Begins
 pub mod ByEntry
 pub mod Farm
+pub mod GoesOn
 pub mod Stops
 pub use Rattle.farm_script.specs.FirstFaulty
 pub use Rattle.farm_script.specs.Grammar

@@ -8,15 +8,14 @@ ghost use Rattle.farm_entries.specs.declared.site.SiteServer.{SiteServer as Site
 ghost use Rattle.farm_entries.specs.Begun.{IsBegunBy, Keeps};
 ghost use Rattle.farm_entries.specs.Effects.{word_effect};
 ghost use Rattle.farm_run.specs.Farm.{IsReceived, Stands, acted};
-ghost use Rattle.farm_entries.specs.Passage.{StaysOwn};
-ghost use Rattle.farm_stations.specs.Post.{Post, outside_of};
+ghost use Rattle.farm_stations.specs.Post.{Post, LeavesAround, around_of};
 ghost use Rattle.farm_entries.specs.Served.{IsServerAnswered};
 ghost use Rattle.farm_entries.specs.Servers.{server_at, server_now};
 ghost use Rattle.farm_stations.specs.Stations.{now_of, IsWell, AreWell, AreStations, IsStepAt, IsRestartedSo};
 ghost use Rattle.farm_stations.specs.Stations.{IsRestartAt, HasApart};
 ghost use Rattle.farm_run.specs.Stops.{IsCutFor};
 ghost use Rattle.farm_entries.specs.Ways.{way_of, way_to, beat_way, to_server};
-ghost use Rattle.farm_entries.specs.Weather.{calm};
+ghost use Rattle.farm_entries.specs.Weather.{calm, OnlyClears};
 
 use crate::desk::Desk;
 use crate::lookup::{call_at, caller_of, is_scheduler, place_of};
@@ -51,12 +50,11 @@ pub(crate) fn arrive<F: Folder + Drop, B: BuilderIncoming + Drop>(
         (λ m. Stands desk.old.setup entries.now m.effect calm stations.old.items stations.new.items) }
     ensures desk { IfOk result (λ m. desk.new ≡ acted desk.old m.effect.core) }
     ensures cut { OnErr result
-        (map outside_of stations.new.items ≡ map outside_of stations.old.items) }
+        (map around_of stations.new.items ≡ map around_of stations.old.items) }
     ensures err { IfErr result (λ e. e ≡ fault.Memory) }
 {
     if is_scheduler(&desk.setup, target) {
-        let made = serve(desk, arrival)?;
-        return Ok(made);
+        return serve(desk, arrival);
     }
     match place_of(&desk.setup, target) {
         None => Ok(Made::whole(Effect::of_word(EntryWord::Down))),
@@ -64,8 +62,7 @@ pub(crate) fn arrive<F: Folder + Drop, B: BuilderIncoming + Drop>(
             if !runs_at(stations, place) {
                 return Ok(Made::whole(Effect::of_word(EntryWord::Down)));
             }
-            let made = arrive_at(desk, stations, place, arrival)?;
-            Ok(made)
+            arrive_at(desk, stations, place, arrival)
         }
     }
 }
@@ -105,17 +102,14 @@ pub(crate) fn arrive_at<F: Folder + Drop, B: BuilderIncoming + Drop>(
         → IsStepAt s place st m.effect.step stations.old.items stations.new.items) }
     ensures there { OnOk result ((st : Post) × (slice_get stations.old.items place ≡ Some st)) }
     ensures cut { OnErr result
-        (map outside_of stations.new.items ≡ map outside_of stations.old.items) }
+        (map around_of stations.new.items ≡ map around_of stations.old.items) }
     ensures err { IfErr result (λ e. e ≡ fault.Memory) }
 {
     match desk.setup.servers.get().get(place) {
         None => Err(FarmFault::Memory),
         Some(server) => match stations.get_mut(place) {
             None => Err(FarmFault::Memory),
-            Some(station) => {
-                let made = serve_at(desk, server, station, arrival)?;
-                Ok(made)
-            }
+            Some(station) => serve_at(desk, server, station, arrival),
         },
     }
 }
@@ -137,7 +131,7 @@ pub(crate) fn deliver<F: Folder + Drop, B: BuilderIncoming + Drop>(
         (λ m. Stands desk.old.setup entries.now m.effect calm stations.old.items stations.new.items) }
     ensures desk { IfOk result (λ m. desk.new ≡ acted desk.old m.effect.core) }
     ensures cut { OnErr result
-        (map outside_of stations.new.items ≡ map outside_of stations.old.items) }
+        (map around_of stations.new.items ≡ map around_of stations.old.items) }
     ensures err { IfErr result (λ e. e ≡ fault.Memory) }
 {
     match call_at(entries, call) {
@@ -151,8 +145,7 @@ pub(crate) fn deliver<F: Folder + Drop, B: BuilderIncoming + Drop>(
                 peer: caller_of(&desk.setup, entries, call),
                 bytes: out.bytes.get(),
             };
-            let made = arrive(desk, stations, entries, out.target, &arrival)?;
-            Ok(made)
+            arrive(desk, stations, entries, out.target, &arrival)
         }
     }
 }
@@ -182,8 +175,7 @@ pub(crate) fn send_beat<F: Folder + Drop, B: BuilderIncoming + Drop>(
                     if !station.is_running() {
                         return Ok(Made::whole(Effect::of_word(EntryWord::Down)));
                     }
-                    let made = beat(desk, server, station, entries.len() as u64)?;
-                    Ok(made)
+                    beat(desk, server, station, entries.len() as u64)
                 }
             },
         },
@@ -200,7 +192,10 @@ pub(crate) fn restart_in<F: Folder + Drop, B: BuilderIncoming + Drop>(
 ) -> Result<Effect, FarmFault>
     requires well { IsWell server.now station.old }
     ensures restarts { IfOk result (IsRestartedSo server.now station.old station.new key.now nonce) }
-    ensures own { OnErr result (StaysOwn (outside_of station.old) (outside_of station.new)) }
+    ensures leaves { OnErr result (LeavesAround (around_of station.old) (around_of station.new)) }
+    ensures clears { OnErr result (OnlyClears station.old.state.folder station.new.state.folder) }
+    ensures builder { OnErr result (station.new.builder ≡ station.old.builder) }
+    ensures hand { station.new.hand ≡ station.old.hand }
     ensures err { IfErr result (λ e. e ≡ fault.Memory) }
 {
     match station.restart(alloc, server, key, nonce) {
@@ -227,8 +222,10 @@ pub(crate) fn restart<F: Folder + Drop, B: BuilderIncoming + Drop>(
         → slice_get desk.now.setup.servers place ≡ Some s → slice_get stations.old.items place ≡ Some st
         → (m.pending ≡ None)
         × IsRestartAt s place st key.now nonce m.effect stations.old.items stations.new.items) }
-    ensures cut { OnErr result (IsCutFor (λ a. addr ≡ a) desk.now.setup
-        (map outside_of stations.old.items) (map outside_of stations.new.items)) }
+    ensures cut { OnErr result (IsCutFor (λ a was is. (addr ≡ a)
+        × OnlyClears was.outside.folder is.outside.folder × (is.outside.builder ≡ was.outside.builder)
+        × (is.hand ≡ was.hand)) desk.now.setup (map around_of stations.old.items)
+        (map around_of stations.new.items)) }
     ensures err { IfErr result (λ e. e ≡ fault.Memory) }
 {
     match place_of(&desk.setup, addr) {

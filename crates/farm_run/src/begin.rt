@@ -2,9 +2,12 @@
 ghost use Rattle.std.specs.Prelude.{◌≡◌, ◌∷◌, [], length, map, Some, None, IfOk, IfErr};
 ghost use Rattle.build_server.specs.Builds.{builder_of};
 ghost use Rattle.farm_script.specs.Setups.{AreApart};
+ghost use Rattle.folders.specs.InMemory.{folder_files, folder_calls};
+ghost use Rattle.farm_stations.specs.Unlisted.{NoneListed};
 ghost use Rattle.line_program.specs.declared.fault.FarmFault.TheVariants as fault;
 ghost use Rattle.farm_run.specs.Begins.{IsBegunAs, AreBegun};
 ghost use Rattle.farm_entries.specs.Passage.{AreOwn};
+ghost use Rattle.farm_stations.specs.Hands.{fresh_hand};
 ghost use Rattle.farm_stations.specs.Post.{outside_of};
 ghost use Rattle.farm_entries.specs.Servers.{server_begun};
 ghost use Rattle.farm_entries.specs.Sites.{site_server, site_of};
@@ -17,12 +20,22 @@ use farm_entries::site::{Site, SiteServer};
 use farm_script::setup::{Setup, SetupServer};
 use farm_stations::builder::FarmBuilder;
 use farm_stations::copies::{copy_scheduler, copy_server};
+use farm_stations::own_builder::OwnBuilder;
 use farm_stations::station::Station;
 use folders::calls::Calls;
 use folders::folder::Folder;
 use folders::mem_folder::MemFolder;
 use line_program::fault::FarmFault;
 use std::alloc::Global;
+
+/// An empty folder in memory, of which no call is to fail.
+fn own_folder(alloc: Global) -> MemFolder
+    ensures files { folder_files result ≡ [] }
+    ensures unlisted { NoneListed (folder_calls result) }
+{
+    let calls = Calls::new(Vec::new(alloc), Vec::new(alloc));
+    MemFolder::new(alloc, Vec::new(alloc), calls)
+}
 
 /// A server that a script sets up, over an empty folder in memory, with a builder of the farm's own.
 fn own_server(
@@ -33,11 +46,15 @@ fn own_server(
     ensures now { IfOk result (λ p. now_of p.0 p.1 ≡ server_begun p.0) }
     ensures well { IfOk result (λ p. IsWell p.0 p.1) }
     ensures own { IfOk result (λ p. p.1.builder ≡ None) }
+    ensures hand { IfOk result (λ p. p.1.hand ≡ fresh_hand server.now.builder) }
     ensures err { IfErr result (λ e. e ≡ fault.Memory) }
 {
-    let calls = Calls::new(Vec::new(alloc), Vec::new(alloc));
-    let folder = MemFolder::new(alloc, Vec::new(alloc), calls);
-    let (station, found) = Station::begun(alloc, server, folder, None)?;
+    let folder = own_folder(alloc);
+    let own = match OwnBuilder::of(alloc, server.builder.get()) {
+        Ok(own) => own,
+        Err(_) => return Err(FarmFault::Memory),
+    };
+    let (station, found) = Station::begun_own(alloc, server, folder, own)?;
     match copy_server(alloc, server, found) {
         Ok(site) => Ok((site, station)),
         Err(_) => Err(FarmFault::Memory),
@@ -52,6 +69,8 @@ fn own_servers(
     ensures sites { IfOk result (λ p. p.0.items ≡ map (site_server (Some [])) servers.now) }
     ensures stations { IfOk result (λ p. AreStations p.0.items [] p.1.items) }
     ensures own { IfOk result (λ p. AreOwn (map outside_of p.1.items)) }
+    ensures hands { IfOk result
+        (λ p. map (λ st. st.hand) p.1.items ≡ map (λ s. fresh_hand s.builder) servers.now) }
     ensures err { IfErr result (λ e. e ≡ fault.Memory) }
 {
     let mut sites = Vec::with_capacity(alloc, servers.len())?;
@@ -64,13 +83,15 @@ fn own_servers(
     Ok((sites, stations))
 }
 
-/// The farm that a script sets up, with no entries: over empty folders in memory, which never fail, and
-/// builders that answer by the lines of the script and then echo. Refused for want of memory alone.
+/// The farm that a script sets up, with no entries: over empty folders in memory, of which no call is to fail,
+/// so that none does (`folder_laws`), and builders that answer by the lines of the script and then echo.
+/// Refused for want of memory alone.
 pub fn setup(alloc: Global, setup: &Setup) -> Result<Farm<MemFolder, FarmBuilder>, FarmFault>
     requires apart { AreApart (setup.now.scheduler.addr ∷ map (λ s. s.addr) setup.now.servers) }
     ensures setup { IfOk result (λ farm. farm.setup ≡ site_of setup.now) }
     ensures none { IfOk result (λ farm. farm.entries ≡ []) }
     ensures own { IfOk result (λ farm. AreOwn farm.outside) }
+    ensures hands { IfOk result (λ farm. farm.hands ≡ map (λ s. fresh_hand s.builder) setup.now.servers) }
     ensures err { IfErr result (λ e. e ≡ fault.Memory) }
 {
     let scheduler = match copy_scheduler(&setup.scheduler) {
@@ -100,7 +121,7 @@ fn handed_server<F: Folder + Drop, B: BuilderIncoming + Drop>(
     ensures well { IfOk result (λ p. IsWell p.0 p.1) }
     ensures err { IfErr result (λ e. e ≡ fault.Memory) }
 {
-    let (station, found) = Station::begun(alloc, server, folder, Some(builder))?;
+    let (station, found) = Station::begun(alloc, server, folder, builder)?;
     match copy_server(alloc, server, found) {
         Ok(site) => Ok((site, station)),
         Err(_) => Err(FarmFault::Memory),

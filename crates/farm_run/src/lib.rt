@@ -11,12 +11,13 @@
 
 pub use farm_entries::{entry, site};
 pub use farm_laws::{build_laws, laws};
-pub use farm_stations::{builder, folder_laws};
+pub use farm_stations::{build_row, builder, folder_laws};
 
 pub mod answer_laws;
 mod arrivals;
 pub mod begin;
 mod desk;
+mod go_on;
 mod lookup;
 mod pending;
 pub mod print;

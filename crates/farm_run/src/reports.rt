@@ -7,8 +7,8 @@ ghost use Rattle.dist_types.specs.declared.results.UpdateJobStateResult.{UpdateJ
 ghost use Rattle.dist_types.specs.declared.results.HeartbeatServerResult.{HeartbeatServerResult as Heard};
 ghost use Rattle.farm_entries.specs.Begun.{Keeps, completion_at};
 ghost use Rattle.farm_entries.specs.Effects.{step_effect};
-ghost use Rattle.farm_entries.specs.Passage.{LeavesOutside, StaysOwn};
-ghost use Rattle.farm_stations.specs.Post.{outside_of};
+ghost use Rattle.farm_entries.specs.Passage.{LeavesOutside};
+ghost use Rattle.farm_stations.specs.Post.{LeavesAround, around_of, outside_of};
 ghost use Rattle.farm_entries.specs.Servers.{stepped};
 ghost use Rattle.farm_entries.specs.Settled.{IsUpdated, IsHeard, unreported, running, ReadyEnds, StartedEnds};
 ghost use Rattle.farm_entries.specs.Settled.{complete_end, heard_as, ended_response, Reports};
@@ -33,7 +33,7 @@ use dist_wire::run::RunJobHttpRequest;
 use farm_entries::entry::{Effect, HeardAs, StepKind};
 use farm_entries::pending::{Ask, Pending, Told};
 use farm_entries::site::SiteServer;
-use farm_stations::builder::copy_result;
+use farm_stations::build_row::copy_result;
 use farm_stations::station::Station;
 use folders::folder::Folder;
 use http_routes::call_reply::answer;
@@ -107,6 +107,7 @@ fn unreported(
 }
 
 /// Goes on with a submission, by what the scheduler answered to Ready.
+#[tactic(auto, using(farm_stations::proofs::HandLemmas::around_same))]
 fn end_ready<F: Folder + Drop, B: BuilderIncoming + Drop>(
     alloc: Global,
     server: &SiteServer,
@@ -125,7 +126,7 @@ fn end_ready<F: Folder + Drop, B: BuilderIncoming + Drop>(
         (λ x. now_of server.now station.new ≡ stepped x.step (now_of server.now station.old)) }
     ensures outside { IfOk result (λ x. LeavesOutside x.step (outside_of station.old)
         (outside_of station.new)) }
-    ensures own { OnErr result (StaysOwn (outside_of station.old) (outside_of station.new)) }
+    ensures leaves { OnErr result (LeavesAround (around_of station.old) (around_of station.new)) }
     ensures still_well { OnOk result (IsWell server.now station.new) }
     ensures err { IfErr result (λ e. e ≡ fault.Memory) }
 {
@@ -157,6 +158,7 @@ fn behind(bytes: &[u8], place: usize) -> &[u8]
 }
 
 /// Goes on with a run, by what the scheduler answered to Started.
+#[tactic(auto, using(farm_stations::proofs::HandLemmas::around_same))]
 fn end_started<F: Folder + Drop, B: BuilderIncoming + Drop>(
     desk: &Desk,
     server: &SiteServer,
@@ -177,7 +179,7 @@ fn end_started<F: Folder + Drop, B: BuilderIncoming + Drop>(
         (λ m. now_of server.now station.new ≡ stepped m.effect.step (now_of server.now station.old)) }
     ensures outside { IfOk result
         (λ m. LeavesOutside m.effect.step (outside_of station.old) (outside_of station.new)) }
-    ensures own { OnErr result (StaysOwn (outside_of station.old) (outside_of station.new)) }
+    ensures leaves { OnErr result (LeavesAround (around_of station.old) (around_of station.new)) }
     ensures still_well { OnOk result (IsWell server.now station.new) }
     ensures err { IfErr result (λ e. e ≡ fault.Memory) }
 {
@@ -190,9 +192,8 @@ fn end_started<F: Folder + Drop, B: BuilderIncoming + Drop>(
         Ok(accepted) => {
             let life = station.life();
             let bytes = behind(back.brought, inputs);
-            let done = station.run(desk.alloc, server, job, &run, bytes, accepted)?;
-            let made = tell_run(desk, server.addr, life, back, job, done)?;
-            Ok(made)
+            let done = station.run(server, job, &run, bytes, accepted)?;
+            tell_run(desk, server.addr, life, back, job, done)
         }
     }
 }
@@ -351,6 +352,7 @@ fn end_beat(alloc: Global, addr: Addr, reply: Option<&[u8]>) -> Result<Effect, F
 }
 
 /// Goes on with a call of a build server by its reply.
+#[tactic(auto, using(farm_stations::proofs::HandLemmas::around_same))]
 pub fn go_on<F: Folder + Drop, B: BuilderIncoming + Drop>(
     desk: &Desk,
     server: &SiteServer,
@@ -370,7 +372,7 @@ pub fn go_on<F: Folder + Drop, B: BuilderIncoming + Drop>(
         (λ m. now_of server.now station.new ≡ stepped m.effect.step (now_of server.now station.old)) }
     ensures outside { IfOk result
         (λ m. LeavesOutside m.effect.step (outside_of station.old) (outside_of station.new)) }
-    ensures own { OnErr result (StaysOwn (outside_of station.old) (outside_of station.new)) }
+    ensures leaves { OnErr result (LeavesAround (around_of station.old) (around_of station.new)) }
     ensures still_well { OnOk result (IsWell server.now station.new) }
     ensures err { IfErr result (λ e. e ≡ fault.Memory) }
 {
@@ -380,8 +382,7 @@ pub fn go_on<F: Folder + Drop, B: BuilderIncoming + Drop>(
             Ok(Made::whole(effect))
         }
         Told::Started { job, run, inputs } => {
-            let made = end_started(desk, server, station, back, job, run, inputs)?;
-            Ok(made)
+            end_started(desk, server, station, back, job, run, inputs)
         }
         Told::Complete { job, done } => {
             let effect = end_complete(desk.alloc, server.addr, back, job, done)?;

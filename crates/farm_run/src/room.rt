@@ -1,10 +1,9 @@
 //! Room for what a farm hands back.
-ghost use Rattle.std.specs.Prelude.{◌≡◌, ◌+◌, ◌≤◌, ◌++◌, [], length, map, vec_len, vec_capacity, IfOk, IfErr};
-ghost use Rattle.std.specs.Option.{option_map};
+ghost use Rattle.std.specs.Prelude.{◌≡◌, ◌≤◌, length, map, IfOk, IfErr};
 ghost use Rattle.build_server.specs.Builds.{builder_of};
 ghost use Rattle.line_program.specs.declared.fault.FarmFault.TheVariants as fault;
 ghost use Rattle.farm_stations.specs.Post.{outside_of};
-ghost use Rattle.farm_run.specs.Stops.{folders_in, builders_in, in_front};
+ghost use Rattle.farm_run.specs.Stops.{folders_in, AreGiven};
 
 use dist_types::builder::BuilderIncoming;
 use farm_stations::station::Station;
@@ -31,21 +30,6 @@ impl<F: Folder + Drop, B: BuilderIncoming + Drop> Model for Room<F, B> {
         × (vec_capacity r.builders ≡ vec_capacity r.folders) };
 }
 
-/// Adds a builder, if it was handed in.
-fn add_builder<B: BuilderIncoming + Drop>(builders: &mut Vec<B>, builder: Option<B>)
-    requires room { vec_len builders.old + 1 ≤ vec_capacity builders.old }
-    ensures added { map (builder_of B.built B.refusals) builders.new.items
-        ≡ map (builder_of B.built B.refusals) builders.old.items
-        ++ in_front (option_map (builder_of B.built B.refusals) builder) [] }
-    ensures few { vec_len builders.new ≤ vec_len builders.old + 1 }
-    ensures capacity { vec_capacity builders.new ≡ vec_capacity builders.old }
-{
-    match builder {
-        None => {}
-        Some(builder) => builders.push_reserved(builder),
-    }
-}
-
 impl<F: Folder + Drop, B: BuilderIncoming + Drop> Room<F, B> {
     /// Room for so many servers. Refused for want of memory alone.
     pub fn of(alloc: Global, servers: usize) -> Result<Self, FarmFault>
@@ -57,13 +41,12 @@ impl<F: Folder + Drop, B: BuilderIncoming + Drop> Room<F, B> {
         Ok(Room { folders, builders })
     }
 
-    /// The folder of each station, and the builders that were handed in, in the order of the stations. It
-    /// takes no memory.
+    /// The folder and the builder of each station, in the order of the stations. It takes no memory.
     pub fn fill(self, stations: Vec<Station<F, B>>) -> (Vec<F>, Vec<B>)
         requires room { length stations.items ≤ self }
         ensures folders { map F.held result.0.items ≡ folders_in (map outside_of stations.items) }
-        ensures builders { map (builder_of B.built B.refusals) result.1.items
-            ≡ builders_in (map outside_of stations.items) }
+        ensures builders { AreGiven (builder_of B.built B.refusals) B.answers (map (λ st. st.hand) stations.items)
+            result.1.items }
     {
         let Room {
             mut folders,
@@ -72,7 +55,7 @@ impl<F: Folder + Drop, B: BuilderIncoming + Drop> Room<F, B> {
         for station in stations {
             let (folder, builder) = station.into_parts();
             folders.push_reserved(folder);
-            add_builder(&mut builders, builder);
+            builders.push_reserved(builder);
         }
         (folders, builders)
     }

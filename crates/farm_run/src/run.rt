@@ -9,22 +9,26 @@ ghost use Rattle.core_rules.specs.Rows.{servers_of, jobs_of, job_row, unended_by
 ghost use Rattle.line_program.specs.declared.fault.FarmFault.TheVariants as fault;
 ghost use Rattle.farm_entries.specs.declared.site.SiteServer.{SiteServer};
 ghost use Rattle.farm_entries.specs.Builds.{AreBuilds, HasToken, HasWords};
-ghost use Rattle.farm_run.specs.Farm.{IsFarm, IsMadeSo, acted, AddsNext, StepsTo, Runs, AreOnce};
+ghost use Rattle.farm_run.specs.Alike.{AllAlike};
+ghost use Rattle.farm_run.specs.GoesOn.{next_site};
+ghost use Rattle.farm_run.specs.Farm.{Farmed, IsFarm, IsMadeSo, acted, AddsNext, StepsTo, Runs, AreOnce};
 ghost use Rattle.farm_entries.specs.Lawful.{AreLawful, HasNext};
 ghost use Rattle.farm_entries.specs.Next.{IsRun};
-ghost use Rattle.farm_entries.specs.Passage.{AreOwn, AreInStep};
+ghost use Rattle.farm_entries.specs.Passage.{AreOwn, AllStay, AreInStep};
 ghost use Rattle.farm_entries.specs.Printed.{ids_given};
 ghost use Rattle.farm_entries.specs.Reliable.{IsReliable, ReturnsGrant};
 ghost use Rattle.farm_entries.specs.Seen.{core_log};
 ghost use Rattle.farm_entries.specs.Servers.{server_of};
 ghost use Rattle.farm_stations.specs.Stations.{now_of, AreStations, HasApart};
-ghost use Rattle.farm_stations.specs.Post.{outside_of};
-ghost use Rattle.farm_run.specs.Stops.{folders_in, builders_in, IsCutOff, AreHandedBack};
+ghost use Rattle.farm_stations.specs.Hands.{Hand};
+ghost use Rattle.farm_stations.specs.Post.{outside_of, around_of};
+ghost use Rattle.farm_run.specs.Stops.{folders_in, AreGiven, AreHands, IsCutOff, AreHandedBack};
 ghost use Rattle.farm_entries.specs.Ways.{way_of};
 ghost use Rattle.farm_entries.specs.Weather.{Outside, calm, free};
 
 use crate::arrivals::{arrive, deliver, restart, send_beat};
 use crate::desk::Desk;
+use crate::go_on::next_servers;
 use crate::lookup::{delivery_at, is_inside};
 use crate::pending::{Made, idle, release};
 use crate::room::Room;
@@ -38,6 +42,7 @@ use farm_entries::entry::Entry;
 use farm_entries::pending::Pending;
 use farm_entries::site::Site;
 use farm_script::event::{Event, EventKind};
+use farm_script::setup::SetupScheduler;
 use farm_stations::station::Station;
 use folders::folder::Folder;
 use line_program::fault::FarmFault;
@@ -56,7 +61,8 @@ struct Log {
 /// A farm and the log of all that came to it. Contracts see how it was set up, the entries, and what is
 /// outside of its servers.
 pub struct Farm<F: Folder + Drop, B: BuilderIncoming + Drop> {
-    desk: Desk,
+    /// Boxed, since each event moves its farm.
+    desk: Box<Desk>,
     /// One for each server, in the order of the setup.
     stations: Vec<Station<F, B>>,
     log: Log,
@@ -68,19 +74,19 @@ impl<F: Folder + Drop, B: BuilderIncoming + Drop> Model for Farm<F, B> {
     ghost use Rattle.std.specs.Prelude.{map};
     ghost use Rattle.farm_run.specs.Farm.{Farmed};
     ghost use Rattle.farm_stations.specs.Post.{outside_of};
+    ghost use Rattle.farm_run.specs.Stops.{IsWhole};
 
     ghost Value = { Farmed };
 
-    ghost use Rattle.farm_run.specs.Stops.{IsWhole};
-
     ghost view = { λ f. record {
-      setup = f.desk.setup;
+      setup = f.desk.value.setup;
       entries = f.log.entries.items;
       outside = map outside_of f.stations.items;
+      hands = map (λ st. st.hand) f.stations.items;
     } };
 
-    ghost invariant = { λ f. IsWhole f.desk.setup f.desk.state f.log.entries.items f.log.kept.items
-        f.stations.items f.room };
+    ghost invariant = { λ f. IsWhole f.desk.value.setup f.desk.value.state f.log.entries.items
+        f.log.kept.items f.stations.items f.room };
 }
 
 /// What is kept of calls that wait is undone.
@@ -103,12 +109,12 @@ pub struct Stopped<F: Folder + Drop, B: BuilderIncoming + Drop> {
     pub entries: Items<Entry>,
     /// The folder of each server, in the order of the setup.
     pub folders: Vec<F>,
-    /// The builders that were handed in, in the order of the setup.
+    /// The builder of each server, also one that `setup` made, in the order of the setup.
     pub builders: Vec<B>,
 }
 
 /// Undoes what is kept of calls that wait, and lets all go but the entries.
-fn let_go(desk: Desk, log: Log) -> Vec<Entry>
+fn let_go(desk: Box<Desk>, log: Log) -> Vec<Entry>
     ensures entries { result.items ≡ log.entries.items }
 {
     let Log { entries, kept } = log;
@@ -116,14 +122,14 @@ fn let_go(desk: Desk, log: Log) -> Vec<Entry>
         alloc: _,
         setup: _,
         state,
-    } = desk;
+    } = Box::into_inner(desk);
     release(state, kept);
     entries
 }
 
 /// Stops a run: the entries, the folders and the builders are handed back. It takes no memory.
 fn stop<F: Folder + Drop, B: BuilderIncoming + Drop>(
-    desk: Desk,
+    desk: Box<Desk>,
     stations: Vec<Station<F, B>>,
     log: Log,
     room: Room<F, B>,
@@ -131,8 +137,8 @@ fn stop<F: Folder + Drop, B: BuilderIncoming + Drop>(
     requires room { length stations.items ≤ room }
     ensures entries { result.entries ≡ log.entries.items }
     ensures folders { map F.held result.folders.items ≡ folders_in (map outside_of stations.items) }
-    ensures builders { map (builder_of B.built B.refusals) result.builders.items
-        ≡ builders_in (map outside_of stations.items) }
+    ensures builders { AreGiven (builder_of B.built B.refusals) B.answers (map (λ st. st.hand) stations.items)
+        result.builders.items }
 {
     let entries = let_go(desk, log);
     let (folders, builders) = room.fill(stations);
@@ -156,6 +162,7 @@ impl<F: Folder + Drop, B: BuilderIncoming + Drop> Farm<F, B> {
           setup = setup;
           entries = [];
           outside = map outside_of stations.items;
+          hands = map (λ st. st.hand) stations.items;
         }) }
         ensures err { IfErr result (λ e. e ≡ fault.Memory) }
     {
@@ -167,12 +174,16 @@ impl<F: Folder + Drop, B: BuilderIncoming + Drop> Farm<F, B> {
             setup.scheduler.count,
             setup.rules,
         );
-        Ok(Farm {
-            desk: Desk {
+        let desk = Box::new(
+            alloc,
+            Desk {
                 alloc,
                 setup,
                 state,
             },
+        )?;
+        Ok(Farm {
+            desk,
             stations,
             log: Log {
                 entries: Vec::new(alloc),
@@ -182,12 +193,15 @@ impl<F: Folder + Drop, B: BuilderIncoming + Drop> Farm<F, B> {
         })
     }
 
-    /// The folder of each server and the builders that were handed in, in the order of the setup. It takes no
-    /// memory.
+    /// The folder and the builder of each server, in the order of the setup: one that was handed in tells what is
+    /// outside of the server, and one that `setup` made its whole record, and has the lines that are left. It takes
+    /// no memory.
     pub fn into_parts(self) -> (Vec<F>, Vec<B>)
         ensures folders { map F.held result.0.items ≡ folders_in self.outside }
-        ensures builders { map (builder_of B.built B.refusals) result.1.items ≡ builders_in self.outside }
+        ensures builders { AreGiven (builder_of B.built B.refusals) B.answers self.hands result.1.items }
+        ensures left { AreHands self.setup self.entries self.outside self.hands }
     {
+        self.have_hands();
         let Farm {
             desk,
             stations,
@@ -196,6 +210,49 @@ impl<F: Folder + Drop, B: BuilderIncoming + Drop> Farm<F, B> {
         } = self;
         let _ = let_go(desk, log);
         room.fill(stations)
+    }
+
+    /// Ends the run, and begins another one with that first id and that count of ids that were given before.
+    /// Every call that waits is given up; each server begins again as it was set up, over its folder, with its
+    /// builder, which has the lines that are left. Refused for want of memory alone, as which a fault of a
+    /// folder of the farm's own is told.
+    pub fn go_on(self, base: u64, count: u64) -> Result<Self, FarmFault>
+        ensures setup { IfOk result (λ farm. AreOwn self.outside
+            → farm.setup ≡ next_site base count self.setup self.entries) }
+        ensures none { IfOk result (λ farm. farm.entries ≡ []) }
+        ensures own { IfOk result (λ farm. AreOwn self.outside → AreOwn farm.outside) }
+        ensures stays { IfOk result (λ farm. AllStay self.outside farm.outside) }
+        ensures err { IfErr result (λ e. e ≡ fault.Memory) }
+    {
+        let Farm {
+            desk,
+            stations,
+            log,
+            room: _,
+        } = self;
+        let Desk {
+            alloc,
+            setup,
+            state,
+        } = Box::into_inner(desk);
+        let Log { entries, kept } = log;
+        release(state, kept);
+        let Site {
+            rules,
+            scheduler,
+            servers,
+        } = setup;
+        let (servers, stations) = next_servers(alloc, servers.get(), stations, &entries)?;
+        let site = Site {
+            rules,
+            scheduler: SetupScheduler {
+                base,
+                count,
+                ..scheduler
+            },
+            servers: Items::new(servers),
+        };
+        Farm::begun(alloc, site, stations)
     }
 
     /// How it was set up.
@@ -260,18 +317,21 @@ impl<F: Folder + Drop, B: BuilderIncoming + Drop> Farm<F, B> {
         ensures ok { IfOk result (StepsTo self event.now) }
         ensures err { IfErr result (λ s. s.entries ≡ self.entries) }
         ensures back { IfErr result (λ s. AreHandedBack self.setup self.entries event.now.kind self.outside
-            (map F.held s.folders.items) (map (builder_of B.built B.refusals) s.builders.items)) }
+            self.hands (map F.held s.folders.items)
+            (λ hands. AreGiven (builder_of B.built B.refusals) B.answers hands s.builders.items)) }
         ensures run { OnErr result (IsRun free self.setup self.entries) }
         ensures calmly { OnErr result (AreOwn self.outside → IsRun calm self.setup self.entries) }
     {
         self.obey();
+        self.in_step();
+        self.have_hands();
         let Farm {
             mut desk,
             mut stations,
             mut log,
             room,
         } = self;
-        if !advance(&mut desk, &mut stations, &mut log, event) {
+        if !advance(&mut *desk, &mut stations, &mut log, event) {
             return Err(stop(desk, stations, log, room));
         }
         Ok(Farm {
@@ -292,9 +352,16 @@ impl<F: Folder + Drop, B: BuilderIncoming + Drop> Farm<F, B> {
     }
 
     /// That each server that runs lists what its folder holds, unless that failed since its last opening
-    /// began: so at the end of a run, and at any moment of a farm.
+    /// began.
     pub fn in_step(&self)
         ensures { AreInStep self.now.setup self.now.entries self.now.outside }
+    {
+        let _ = self.log.entries.len();
+    }
+
+    /// That each server's builder is the one that was handed in, or has the lines left that are not built.
+    fn have_hands(&self)
+        ensures { AreHands self.now.setup self.now.entries self.now.outside self.now.hands }
     {
         let _ = self.log.entries.len();
     }
@@ -303,6 +370,17 @@ impl<F: Folder + Drop, B: BuilderIncoming + Drop> Farm<F, B> {
     #[tactic(auto, using(farm_laws::proofs::ThereLemmas::has_next))]
     pub fn goes_on(&self)
         ensures { HasNext self.now.setup self.now.entries }
+    {
+        let _ = self.log.entries.len();
+    }
+
+    /// That over the entries an event has one next entry at most, also over folders and builders that were
+    /// handed in: where files are told, no count rises, and such a builder tells the same rows after the one
+    /// as after the other.
+    pub fn goes_one_way(&self)
+        ensures { (event : Happening) (one other : Farmed) → StepsTo self.now event one
+            → StepsTo self.now event other → AllAlike self.now.outside one.outside other.outside
+            → one.entries ≡ other.entries }
     {
         let _ = self.log.entries.len();
     }
@@ -345,14 +423,21 @@ impl<F: Folder + Drop, B: BuilderIncoming + Drop> Farm<F, B> {
         // report is granted.
         ensures grants { IfOk result (λ farm. HasToken self.setup.scheduler.auth
             → ReturnsGrant farm.setup farm.entries) }
+        // Each file outside of the directory of a server's archives is as it was, where files are told, and the
+        // count of no folder has fallen.
+        ensures stays { IfOk result (λ farm. AllStay self.outside farm.outside) }
+        // Where files are told and no call of its folder failed since its last opening began, each server that
+        // runs lists the archives that its folder holds, in their order.
+        ensures in_step { IfOk result (λ farm. AreInStep farm.setup farm.entries farm.outside) }
         // All hold also of the events before the one that memory ran out in. The folders and builders are
         // handed back as they were after those events, but at the one server that this one reaches for: that
         // which it restarts, or whose report it settles.
         ensures err { IfErr result (λ s. (n : ℕ) × ((event : Happening)
-            × (slice_get events.now n ≡ Some event) × ((outside : List Outside) × Runs self (take n events.now)
-            (record { setup = self.setup; entries = s.entries; outside = outside })
-            × AreHandedBack self.setup s.entries event.kind outside (map F.held s.folders.items)
-            (map (builder_of B.built B.refusals) s.builders.items)))) }
+            × (slice_get events.now n ≡ Some event) × ((outside : List Outside) × ((hands : List Hand)
+            × Runs self (take n events.now)
+            (record { setup = self.setup; entries = s.entries; outside = outside; hands = hands })
+            × AreHandedBack self.setup s.entries event.kind outside hands (map F.held s.folders.items)
+            (λ hs. AreGiven (builder_of B.built B.refusals) B.answers hs s.builders.items))))) }
         ensures stopped_laws { IfErr result (λ s. AreLawful self.setup s.entries) }
         ensures stopped_builds { IfErr result (λ s. HasToken self.setup.scheduler.auth
             → AreBuilds self.setup s.entries) }
@@ -369,6 +454,7 @@ impl<F: Folder + Drop, B: BuilderIncoming + Drop> Farm<F, B> {
             farm = farm.step(event)?;
         }
         farm.obey();
+        farm.in_step();
         Ok(farm)
     }
 }
@@ -387,7 +473,7 @@ fn made_of<F: Folder + Drop, B: BuilderIncoming + Drop>(
         kept.new.items stations.old.items stations.new.items) }
     ensures desk { IfOk result (λ m. desk.new ≡ acted desk.old m.effect.core) }
     ensures cut { OnErr result (IsCutOff desk.old.setup entries.now event.now.kind
-        (map outside_of stations.old.items) (map outside_of stations.new.items)) }
+        (map around_of stations.old.items) (map around_of stations.new.items)) }
     ensures room { OnOk result (vec_capacity kept.new ≡ vec_capacity kept.old) }
     ensures places { OnOk result (vec_len kept.new ≡ vec_len kept.old) }
     ensures err { IfErr result (λ e. e ≡ fault.Memory) }
@@ -407,21 +493,16 @@ fn made_of<F: Folder + Drop, B: BuilderIncoming + Drop>(
                 peer: *peer,
                 bytes: bytes.get(),
             };
-            let made = arrive(desk, stations, entries, *target, &arrival)?;
-            Ok(made)
+            arrive(desk, stations, entries, *target, &arrival)
         }
-        EventKind::Deliver { call } => {
-            let made = deliver(desk, stations, entries, at, *call)?;
-            Ok(made)
-        }
+        EventKind::Deliver { call } => deliver(desk, stations, entries, at, *call),
         EventKind::Fail { call } => {
             let settlement = Settlement {
                 call: *call,
                 at,
                 reply: None,
             };
-            let made = take_back(desk, stations, entries, kept, &settlement)?;
-            Ok(made)
+            take_back(desk, stations, entries, kept, &settlement)
         }
         EventKind::Return { delivery } => match delivery_at(entries, *delivery) {
             None => Ok(idle()),
@@ -431,8 +512,7 @@ fn made_of<F: Folder + Drop, B: BuilderIncoming + Drop>(
                     at,
                     reply: Some(bytes),
                 };
-                let made = take_back(desk, stations, entries, kept, &settlement)?;
-                Ok(made)
+                take_back(desk, stations, entries, kept, &settlement)
             }
         },
         EventKind::Answer { call, bytes } => {
@@ -444,16 +524,11 @@ fn made_of<F: Folder + Drop, B: BuilderIncoming + Drop>(
                 at,
                 reply: Some(bytes.get()),
             };
-            let made = take_back(desk, stations, entries, kept, &settlement)?;
-            Ok(made)
+            take_back(desk, stations, entries, kept, &settlement)
         }
-        EventKind::Beat { server } => {
-            let made = send_beat(desk, stations, entries, *server)?;
-            Ok(made)
-        }
+        EventKind::Beat { server } => send_beat(desk, stations, entries, *server),
         EventKind::Restart { server, key, nonce } => {
-            let made = restart(desk, stations, *server, key.get(), *nonce)?;
-            Ok(made)
+            restart(desk, stations, *server, key.get(), *nonce)
         }
     }
 }
@@ -475,7 +550,7 @@ fn make<F: Folder + Drop, B: BuilderIncoming + Drop>(
         (IsFarm desk.new.setup desk.new.state log.new.entries.items log.new.kept.items stations.new.items) }
     ensures same { OnErr result (log.new.entries.items ≡ log.old.entries.items) }
     ensures cut { OnErr result (IsCutOff desk.old.setup log.old.entries.items event.now.kind
-        (map outside_of stations.old.items) (map outside_of stations.new.items)) }
+        (map around_of stations.old.items) (map around_of stations.new.items)) }
     ensures err { IfErr result (λ e. e ≡ fault.Memory) }
 {
     let copy = event.copy(desk.alloc)?;
@@ -505,7 +580,7 @@ fn advance<F: Folder + Drop, B: BuilderIncoming + Drop>(
         log.new.kept.items stations.new.items }
     ensures same { result ≡ false → log.new.entries.items ≡ log.old.entries.items }
     ensures cut { result ≡ false → IsCutOff desk.old.setup log.old.entries.items event.now.kind
-        (map outside_of stations.old.items) (map outside_of stations.new.items) }
+        (map around_of stations.old.items) (map around_of stations.new.items) }
 {
     match make(desk, stations, log, event) {
         Ok(()) => true,

@@ -1,5 +1,5 @@
 //! What the scheduler does with what comes to it.
-ghost use Rattle.std.specs.Prelude.{◌≡◌, length, IfOk, IfErr, OnOk, Option, Some};
+ghost use Rattle.std.specs.Prelude.{◌≡◌, length, IfOk, IfErr, OnOk, Option, Some, None};
 ghost use Rattle.core_rules.specs.Log.{Core as Seen};
 ghost use Rattle.dist_types.specs.declared.addr.Addr.{Addr as Sender};
 ghost use Rattle.dist_wire.specs.declared.drain.DrainServerHttpRequest.{DrainServerHttpRequest as Wish};
@@ -117,10 +117,11 @@ fn hear(
     turn: Turn,
     server: ServerId,
     beat: HeartbeatServerHttpRequest,
-) -> Result<Effect, FarmFault>
+) -> Result<Made, FarmFault>
     ensures made { IfOk result
-        (λ x. x ≡ answer_to state.old turn.root turn.at turn.json (asked.Beat server beat)) }
-    ensures core { IfOk result (λ x. state.new ≡ with_core state.old x.core) }
+        (λ m. m.effect ≡ answer_to state.old turn.root turn.at turn.json (asked.Beat server beat)) }
+    ensures silent { IfOk result (λ m. (m.effect.call ≡ None) × (m.pending ≡ None)) }
+    ensures core { IfOk result (λ m. state.new ≡ with_core state.old m.effect.core) }
     ensures err { IfErr result (λ e. e ≡ fault.Memory) }
 {
     let HeartbeatServerHttpRequest {
@@ -135,8 +136,7 @@ fn hear(
         Ok(response) => response,
         Err(Memory) => return Err(FarmFault::Memory),
     };
-    let effect = told_since(alloc, state, before, turn.root, &response)?;
-    Ok(effect)
+    told_since(alloc, state, before, turn.root, &response)
 }
 
 /// What a server's report on a job does.
@@ -147,10 +147,11 @@ fn report(
     server: ServerId,
     job: JobId,
     to: JobState,
-) -> Result<Effect, FarmFault>
+) -> Result<Made, FarmFault>
     ensures made { IfOk result
-        (λ x. x ≡ answer_to state.old turn.root turn.at turn.json (asked.Update server job to)) }
-    ensures core { IfOk result (λ x. state.new ≡ with_core state.old x.core) }
+        (λ m. m.effect ≡ answer_to state.old turn.root turn.at turn.json (asked.Update server job to)) }
+    ensures silent { IfOk result (λ m. (m.effect.call ≡ None) × (m.pending ≡ None)) }
+    ensures core { IfOk result (λ m. state.new ≡ with_core state.old m.effect.core) }
     ensures err { IfErr result (λ e. e ≡ fault.Memory) }
 {
     let before = state.history().len();
@@ -159,8 +160,7 @@ fn report(
         Ok(response) => response,
         Err(Memory) => return Err(FarmFault::Memory),
     };
-    let effect = told_since(alloc, state, before, turn.root, &response)?;
-    Ok(effect)
+    told_since(alloc, state, before, turn.root, &response)
 }
 
 /// What a status request does.
@@ -168,9 +168,11 @@ fn count(
     alloc: Global,
     state: &mut SchedState<JWTJobAuthorizer>,
     turn: Turn,
-) -> Result<Effect, FarmFault>
-    ensures made { IfOk result (λ x. x ≡ answer_to state.old turn.root turn.at turn.json asked.Status) }
-    ensures core { IfOk result (λ x. state.new ≡ with_core state.old x.core) }
+) -> Result<Made, FarmFault>
+    ensures made { IfOk result
+        (λ m. m.effect ≡ answer_to state.old turn.root turn.at turn.json asked.Status) }
+    ensures silent { IfOk result (λ m. (m.effect.call ≡ None) × (m.pending ≡ None)) }
+    ensures core { IfOk result (λ m. state.new ≡ with_core state.old m.effect.core) }
     ensures err { IfErr result (λ e. e ≡ fault.Memory) }
 {
     let before = state.history().len();
@@ -179,8 +181,7 @@ fn count(
         Ok(response) => response,
         Err(Memory) => return Err(FarmFault::Memory),
     };
-    let effect = told_since(alloc, state, before, turn.root, &response)?;
-    Ok(effect)
+    told_since(alloc, state, before, turn.root, &response)
 }
 
 /// What a server's wish to drain, or to drain no more, does, by version 2 of the rules.
@@ -190,11 +191,12 @@ fn drain(
     turn: Turn,
     server: ServerId,
     wish: DrainServerHttpRequest,
-) -> Result<Effect, FarmFault>
+) -> Result<Made, FarmFault>
     requires version { state.old.start.rules ≡ Rules.Two }
     ensures made { IfOk result
-        (λ x. x ≡ answer_to state.old turn.root turn.at turn.json (asked.Drain server wish)) }
-    ensures core { IfOk result (λ x. state.new ≡ with_core state.old x.core) }
+        (λ m. m.effect ≡ answer_to state.old turn.root turn.at turn.json (asked.Drain server wish)) }
+    ensures silent { IfOk result (λ m. (m.effect.call ≡ None) × (m.pending ≡ None)) }
+    ensures core { IfOk result (λ m. state.new ≡ with_core state.old m.effect.core) }
     ensures err { IfErr result (λ e. e ≡ fault.Memory) }
 {
     let DrainServerHttpRequest {
@@ -207,8 +209,7 @@ fn drain(
         Ok(response) => response,
         Err(Memory) => return Err(FarmFault::Memory),
     };
-    let effect = told_since(alloc, state, before, turn.root, &response)?;
-    Ok(effect)
+    told_since(alloc, state, before, turn.root, &response)
 }
 
 /// The call that asks the reservation's server to take the job.
@@ -285,19 +286,19 @@ fn unpicked(
     before: usize,
     turn: Turn,
     answer: Result<AllocJobResult, SchedFault>,
-) -> Result<Effect, FarmFault>
-    ensures told { IfOk result (λ x. (response : Response)
+) -> Result<Made, FarmFault>
+    ensures told { IfOk result (λ m. (response : Response)
         × Replies (alloc_response turn.json) told_fault answer response
         × ((core : Seen) (made : Option Entry) → length core.log ≡ before → state.now ≡ with_core core made
-        → x ≡ reply_effect made (reply_to turn.root response))) }
+        → m.effect ≡ reply_effect made (reply_to turn.root response))) }
+    ensures silent { IfOk result (λ m. (m.effect.call ≡ None) × (m.pending ≡ None)) }
     ensures err { IfErr result (λ e. e ≡ fault.Memory) }
 {
     let response = match to_allocated(alloc, turn.json, answer) {
         Ok(response) => response,
         Err(Memory) => return Err(FarmFault::Memory),
     };
-    let effect = told_since(alloc, state, before, turn.root, &response)?;
-    Ok(effect)
+    told_since(alloc, state, before, turn.root, &response)
 }
 
 /// Allocates a job: the call that asks the picked server to take it, or the reply where none is picked.
@@ -318,13 +319,9 @@ fn allocate(
     match step::reserve(state, turn.at) {
         Ok(Picked::Reserved(r)) => reserved(alloc, state, before, turn, tc, r),
         Ok(Picked::NoRoom(standing)) => {
-            let effect = unpicked(alloc, state, before, turn, no_room(alloc, standing))?;
-            Ok(Made::whole(effect))
+            unpicked(alloc, state, before, turn, no_room(alloc, standing))
         }
-        Err(refusal) => {
-            let effect = unpicked(alloc, state, before, turn, Err(refusal))?;
-            Ok(Made::whole(effect))
-        }
+        Err(refusal) => unpicked(alloc, state, before, turn, Err(refusal)),
     }
 }
 
@@ -346,22 +343,10 @@ fn serve_asked(
 {
     match what {
         SchedRouted::Alloc(tc) => allocate(alloc, state, turn, &tc),
-        SchedRouted::Beat(server, beat) => {
-            let effect = hear(alloc, state, turn, server, beat)?;
-            Ok(Made::whole(effect))
-        }
-        SchedRouted::Update(server, job, to) => {
-            let effect = report(alloc, state, turn, server, job, to)?;
-            Ok(Made::whole(effect))
-        }
-        SchedRouted::Status => {
-            let effect = count(alloc, state, turn)?;
-            Ok(Made::whole(effect))
-        }
-        SchedRouted::Drain(server, wish) => {
-            let effect = drain(alloc, state, turn, server, wish)?;
-            Ok(Made::whole(effect))
-        }
+        SchedRouted::Beat(server, beat) => hear(alloc, state, turn, server, beat),
+        SchedRouted::Update(server, job, to) => report(alloc, state, turn, server, job, to),
+        SchedRouted::Status => count(alloc, state, turn),
+        SchedRouted::Drain(server, wish) => drain(alloc, state, turn, server, wish),
         SchedRouted::Done(response) => {
             let reply = reply(alloc, turn.root, &response)?;
             Ok(Made::whole(Effect::of_reply(None, reply)))

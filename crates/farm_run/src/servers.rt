@@ -9,7 +9,7 @@ ghost use Rattle.farm_entries.specs.Served.{books_of, state_call, beat_call, bea
 ghost use Rattle.farm_entries.specs.Served.{report_of, assigned, served, told_of, AsksServer};
 ghost use Rattle.farm_entries.specs.Served.{IsServerAnswered};
 ghost use Rattle.farm_entries.specs.Servers.{stepped};
-ghost use Rattle.farm_stations.specs.Post.{outside_of};
+ghost use Rattle.farm_stations.specs.Post.{around_of};
 ghost use Rattle.farm_stations.specs.Stations.{now_of, IsWell};
 ghost use Rattle.farm_entries.specs.Ways.{to_server};
 ghost use Rattle.farm_entries.specs.declared.pending.Told.{Told as Kept};
@@ -173,7 +173,7 @@ fn assign<F: Folder + Drop, B: BuilderIncoming + Drop>(
     ensures after { IfOk result
         (λ x. now_of server.now station.new ≡ stepped x.step (now_of server.now station.old)) }
     ensures still_well { OnOk result (IsWell server.now station.new) }
-    ensures outside { outside_of station.new ≡ outside_of station.old }
+    ensures around { around_of station.new ≡ around_of station.old }
     ensures err { IfErr result (λ e. e ≡ fault.Memory) }
 {
     match station.assign(server, job, tc) {
@@ -231,7 +231,7 @@ fn serve_asked<F: Folder + Drop, B: BuilderIncoming + Drop>(
     ensures after { IfOk result
         (λ m. now_of server.now station.new ≡ stepped m.effect.step (now_of server.now station.old)) }
     ensures still_well { OnOk result (IsWell server.now station.new) }
-    ensures outside { outside_of station.new ≡ outside_of station.old }
+    ensures around { around_of station.new ≡ around_of station.old }
     ensures err { IfErr result (λ e. e ≡ fault.Memory) }
 {
     match what {
@@ -287,7 +287,7 @@ pub fn serve_at<F: Folder + Drop, B: BuilderIncoming + Drop>(
     ensures after { IfOk result
         (λ m. now_of server.now station.new ≡ stepped m.effect.step (now_of server.now station.old)) }
     ensures still_well { OnOk result (IsWell server.now station.new) }
-    ensures outside { outside_of station.new ≡ outside_of station.old }
+    ensures around { around_of station.new ≡ around_of station.old }
     ensures err { IfErr result (λ e. e ≡ fault.Memory) }
 {
     let question = match server_asked(desk.alloc, arrival.bytes, station.authorizer()) {

@@ -1,5 +1,5 @@
 //! What follows the settlement of a call.
-ghost use Rattle.std.specs.Prelude.{◌≡◌, IfOk, IfErr, true, Result, option_copied};
+ghost use Rattle.std.specs.Prelude.{◌≡◌, IfOk, IfErr, true, None, Result, option_copied};
 ghost use Rattle.dist_types.specs.declared.outgoing.CallFault.{CallFault as Cause};
 ghost use Rattle.dist_types.specs.declared.results.AssignJobResult.{AssignJobResult as Answer};
 ghost use Rattle.core_rules.specs.Reservation.{unspent};
@@ -8,12 +8,12 @@ ghost use Rattle.farm_entries.specs.Seen.{with_core};
 ghost use Rattle.farm_entries.specs.Settled.{IsOutcome, assignment_end};
 ghost use Rattle.line_program.specs.declared.fault.FarmFault.TheVariants as fault;
 
+use crate::pending::Made;
 use crate::told::{Turn, told_since};
 use dist_token::job_token::JWTJobAuthorizer;
 use dist_types::fault::Memory;
 use dist_types::outgoing::CallFault;
 use dist_types::results::AssignJobResult;
-use farm_entries::entry::Effect;
 use http_routes::call_reply::assigned;
 use http_routes::replies::want_of_memory;
 use line_program::fault::FarmFault;
@@ -59,12 +59,13 @@ fn settle(
     turn: Turn,
     reservation: Reservation,
     heard: Result<AssignJobResult, CallFault>,
-) -> Result<Effect, FarmFault>
+) -> Result<Made, FarmFault>
     requires own { is_among (unspent state.old.log) reservation.number reservation.job ≡ true }
     requires begins { IfOk heard (λ a. is_initial a.state ≡ true) }
-    ensures made { IfOk result (λ x. x ≡ assignment_end state.old turn.root turn.json turn.at reservation
-        heard) }
-    ensures core { IfOk result (λ x. state.new ≡ with_core state.old x.core) }
+    ensures made { IfOk result (λ m. m.effect ≡ assignment_end state.old turn.root turn.json turn.at
+        reservation heard) }
+    ensures silent { IfOk result (λ m. (m.effect.call ≡ None) × (m.pending ≡ None)) }
+    ensures core { IfOk result (λ m. state.new ≡ with_core state.old m.effect.core) }
     ensures err { IfErr result (λ e. e ≡ fault.Memory) }
 {
     let before = state.history().len();
@@ -73,8 +74,7 @@ fn settle(
         Ok(response) => response,
         Err(Memory) => return Err(FarmFault::Memory),
     };
-    let effect = told_since(alloc, state, before, turn.root, &response)?;
-    Ok(effect)
+    told_since(alloc, state, before, turn.root, &response)
 }
 
 /// Goes on with an assign call by what its reply says.
@@ -84,11 +84,12 @@ pub fn end_assignment(
     turn: Turn,
     reservation: Reservation,
     reply: Option<&[u8]>,
-) -> Result<Effect, FarmFault>
+) -> Result<Made, FarmFault>
     requires own { is_among (unspent state.old.log) reservation.number reservation.job ≡ true }
-    ensures made { IfOk result (λ x. (r : Result Answer Cause) × IsOutcome (option_copied reply.entry) r
-        × (x ≡ assignment_end state.old turn.root turn.json turn.at reservation r)) }
-    ensures core { IfOk result (λ x. state.new ≡ with_core state.old x.core) }
+    ensures made { IfOk result (λ m. (r : Result Answer Cause) × IsOutcome (option_copied reply.entry) r
+        × (m.effect ≡ assignment_end state.old turn.root turn.json turn.at reservation r)) }
+    ensures silent { IfOk result (λ m. (m.effect.call ≡ None) × (m.pending ≡ None)) }
+    ensures core { IfOk result (λ m. state.new ≡ with_core state.old m.effect.core) }
     ensures err { IfErr result (λ e. e ≡ fault.Memory) }
 {
     let heard = match outcome(alloc, reply) {

@@ -7,8 +7,8 @@ ghost use Rattle.farm_entries.specs.declared.site.SiteServer.{SiteServer as Site
 ghost use Rattle.farm_entries.specs.Begun.{Keeps, completion_at, completion_of};
 ghost use Rattle.farm_run.specs.Farm.{IsFarm, IsMadeSo, Stands, acted};
 ghost use Rattle.farm_entries.specs.Next.{Follows};
-ghost use Rattle.farm_entries.specs.Passage.{LeavesOutside, StaysOwn};
-ghost use Rattle.farm_stations.specs.Post.{Post, outside_of};
+ghost use Rattle.farm_entries.specs.Passage.{LeavesOutside};
+ghost use Rattle.farm_stations.specs.Post.{Post, LeavesAround, around_of, outside_of};
 ghost use Rattle.farm_entries.specs.Seen.{core_of};
 ghost use Rattle.farm_entries.specs.Servers.{stepped, server_now};
 ghost use Rattle.farm_entries.specs.Settled.{IsOwnBy, ReportsIn};
@@ -52,8 +52,8 @@ pub(crate) fn report_at<F: Folder + Drop, B: BuilderIncoming + Drop>(
         (Some (now_of s st)) m.effect) }
     ensures there { OnOk result ((st : Post) × (slice_get stations.old.items place ≡ Some st)) }
     ensures cut { OnErr result
-        (IsCutFor (λ a. (s : Site) → slice_get desk.now.setup.servers place ≡ Some s → s.addr ≡ a)
-        desk.now.setup (map outside_of stations.old.items) (map outside_of stations.new.items)) }
+        (IsCutFor (λ a was is. (s : Site) → slice_get desk.now.setup.servers place ≡ Some s → s.addr ≡ a)
+        desk.now.setup (map around_of stations.old.items) (map around_of stations.new.items)) }
     ensures err { IfErr result (λ e. e ≡ fault.Memory) }
 {
     match desk.setup.servers.get().get(place) {
@@ -66,10 +66,7 @@ pub(crate) fn report_at<F: Folder + Drop, B: BuilderIncoming + Drop>(
                 drop_told(told);
                 Err(FarmFault::Memory)
             }
-            Some(station) => {
-                let made = report_in(desk, server, station, back, told)?;
-                Ok(made)
-            }
+            Some(station) => report_in(desk, server, station, back, told),
         },
     }
 }
@@ -94,7 +91,7 @@ pub(crate) fn report_in<F: Folder + Drop, B: BuilderIncoming + Drop>(
         (λ m. now_of server.now station.new ≡ stepped m.effect.step (now_of server.now station.old)) }
     ensures outside { IfOk result
         (λ m. LeavesOutside m.effect.step (outside_of station.old) (outside_of station.new)) }
-    ensures own { OnErr result (StaysOwn (outside_of station.old) (outside_of station.new)) }
+    ensures leaves { OnErr result (LeavesAround (around_of station.old) (around_of station.new)) }
     ensures still_well { OnOk result (IsWell server.now station.new) }
     ensures err { IfErr result (λ e. e ≡ fault.Memory) }
 {
@@ -102,8 +99,7 @@ pub(crate) fn report_in<F: Folder + Drop, B: BuilderIncoming + Drop>(
         drop_told(told);
         return Ok(Made::whole(Effect::of_word(EntryWord::Died)));
     }
-    let made = go_on_report(desk, server, station, back, told)?;
-    Ok(made)
+    go_on_report(desk, server, station, back, told)
 }
 
 /// A call of a server that comes back.
@@ -124,8 +120,8 @@ pub(crate) fn report<F: Folder + Drop, B: BuilderIncoming + Drop>(
         (λ m. Keeps (λ p. completion_at back.now.root back.now.json back.now.server back.now.life
         m.effect.step ≡ Some p) m.effect m.pending) }
     ensures core { IfOk result (λ m. m.effect.core ≡ None) }
-    ensures cut { OnErr result (IsCutFor (λ a. back.now.server ≡ a) desk.now.setup
-        (map outside_of stations.old.items) (map outside_of stations.new.items)) }
+    ensures cut { OnErr result (IsCutFor (λ a was is. back.now.server ≡ a) desk.now.setup
+        (map around_of stations.old.items) (map around_of stations.new.items)) }
     ensures err { IfErr result (λ e. e ≡ fault.Memory) }
 {
     match place_of(&desk.setup, back.server) {
@@ -133,10 +129,7 @@ pub(crate) fn report<F: Folder + Drop, B: BuilderIncoming + Drop>(
             drop_told(told);
             Ok(Made::whole(Effect::of_word(EntryWord::Died)))
         }
-        Some(place) => {
-            let made = report_at(desk, stations, place, back, told)?;
-            Ok(made)
-        }
+        Some(place) => report_at(desk, stations, place, back, told),
     }
 }
 
@@ -159,8 +152,8 @@ pub(crate) fn go_on<F: Folder + Drop, B: BuilderIncoming + Drop>(
     ensures kept { IfOk result
         (λ m. Keeps (λ p. completion_of pending pending.ask m.effect.step ≡ Some p) m.effect m.pending) }
     ensures desk { IfOk result (λ m. desk.new ≡ acted desk.old m.effect.core) }
-    ensures cut { OnErr result (IsCutFor (λ a. reporter pending.ask ≡ Some a) desk.old.setup
-        (map outside_of stations.old.items) (map outside_of stations.new.items)) }
+    ensures cut { OnErr result (IsCutFor (λ a was is. reporter pending.ask ≡ Some a) desk.old.setup
+        (map around_of stations.old.items) (map around_of stations.new.items)) }
     ensures err { IfErr result (λ e. e ≡ fault.Memory) }
 {
     let Pending { root, json, ask } = pending;
@@ -171,14 +164,13 @@ pub(crate) fn go_on<F: Folder + Drop, B: BuilderIncoming + Drop>(
                 json,
                 at: settlement.at,
             };
-            let effect = end_assignment(
+            end_assignment(
                 desk.alloc,
                 &mut desk.state,
                 turn,
                 reservation,
                 settlement.reply,
-            )?;
-            Ok(Made::whole(effect))
+            )
         }
         Ask::Report { server, life, told } => {
             let back = Back {
@@ -189,8 +181,7 @@ pub(crate) fn go_on<F: Folder + Drop, B: BuilderIncoming + Drop>(
                 brought: brought_at(entries, root),
                 reply: settlement.reply,
             };
-            let made = report(desk, stations, entries, &back, told)?;
-            Ok(made)
+            report(desk, stations, entries, &back, told)
         }
     }
 }
@@ -211,17 +202,14 @@ pub(crate) fn take_back<F: Folder + Drop, B: BuilderIncoming + Drop>(
         kept.new.items stations.old.items stations.new.items m) }
     ensures desk { IfOk result (λ m. desk.new ≡ acted desk.old m.effect.core) }
     ensures cut { OnErr result
-        (IsCutFor (IsReportOf desk.old.setup entries.now settlement.now.call)
-        desk.old.setup (map outside_of stations.old.items) (map outside_of stations.new.items)) }
+        (IsCutFor (λ a was is. IsReportOf desk.old.setup entries.now settlement.now.call a)
+        desk.old.setup (map around_of stations.old.items) (map around_of stations.new.items)) }
     ensures room { vec_capacity kept.new ≡ vec_capacity kept.old }
     ensures places { vec_len kept.new ≡ vec_len kept.old }
     ensures err { IfErr result (λ e. e ≡ fault.Memory) }
 {
     match take_at(kept, settlement.call) {
         None => Ok(idle()),
-        Some(pending) => {
-            let made = go_on(desk, stations, entries, pending, settlement)?;
-            Ok(made)
-        }
+        Some(pending) => go_on(desk, stations, entries, pending, settlement),
     }
 }

@@ -1,16 +1,19 @@
 //! What a step logged, as an effect tells it: the one place that copies an entry out of the log.
-ghost use Rattle.std.specs.Prelude.{◌≡◌, ◌<◌, ◌-◌, Some, Option, length, slice_get, IfOk};
+ghost use Rattle.std.specs.Prelude.{◌≡◌, ◌<◌, ◌-◌, Some, None, Option, length, slice_get, IfOk, IfErr};
 ghost use Rattle.core_rules.specs.Log.{Core as Seen};
 ghost use Rattle.core_rules.specs.declared.entry.CoreEntry.{CoreEntry as Entry};
 ghost use Rattle.farm_entries.specs.Effects.{reply_effect, reply_to};
 ghost use Rattle.farm_entries.specs.Seen.{with_core};
+ghost use Rattle.line_program.specs.declared.fault.FarmFault.TheVariants as fault;
 
+use crate::pending::Made;
 use core_rules::entry::CoreEntry;
 use dist_token::job_token::JWTJobAuthorizer;
 use dist_types::text::Bytes;
 use farm_entries::entry::{Effect, Reply};
 use http_routes::replies::want_of_memory;
 use http_routes::reply::Response;
+use line_program::fault::FarmFault;
 use sched_core::state::SchedState;
 use std::alloc::{AllocError, Global};
 
@@ -69,11 +72,13 @@ pub fn told_since(
     before: usize,
     number: u64,
     response: &Response,
-) -> Result<Effect, AllocError>
-    ensures { IfOk result (λ x. (core : Seen) (made : Option Entry) → length core.log ≡ before
-        → state.now ≡ with_core core made → x ≡ reply_effect made (reply_to number response.now)) }
+) -> Result<Made, FarmFault>
+    ensures effect { IfOk result (λ m. (core : Seen) (made : Option Entry) → length core.log ≡ before
+        → state.now ≡ with_core core made → m.effect ≡ reply_effect made (reply_to number response.now)) }
+    ensures silent { IfOk result (λ m. (m.effect.call ≡ None) × (m.pending ≡ None)) }
+    ensures err { IfErr result (λ e. e ≡ fault.Memory) }
 {
     let core = made_since(alloc, state, before)?;
     let reply = reply(alloc, number, response)?;
-    Ok(Effect::of_reply(core, reply))
+    Ok(Made::whole(Effect::of_reply(core, reply)))
 }

@@ -22,6 +22,7 @@ use Rattle.hex.specs.Hex.{decode_of}
 use Rattle.dist_types.specs.Addr.{◌>>=◌, addr_in, is_scoped}
 use Rattle.dist_types.specs.declared.addr.Addr.{Addr}
 use Rattle.dist_types.proofs.AddrLemmas.{bind_some, addr_of, addr_is, scoped_of, scoped_is, scoped_none}
+use Rattle.line_program.proofs.FirstFaultyLemmas.{choice}
 use Rattle.farm_script.specs.Words.{is_visible}
 use Rattle.farm_script.specs.declared.lines.Scopes.{Scopes}
 use Rattle.farm_script.specs.declared.lines.Scopes.TheVariants.{Refused, Taken}
@@ -152,11 +153,6 @@ cond_true true o y e = (refl, e)
 cond_true false o y e = absurd cc
 
 -- which way a test went
-pub choice : {A : Type 0} (b : Bool) (x y z : A) → cond b x y ≡ z → ((b ≡ true) × (x ≡ z))
-    ⊎ ((b ≡ false) × (y ≡ z))
-choice true x y z e = inl (refl, e)
-choice false x y z e = inr (refl, e)
-
 ok_of_some : {A E : Type 0} (r : Result A E) (x : A) → ok_of r ≡ Some x → r ≡ Ok x
 ok_of_some (Ok y) x e = ap (λ z. Ok z) (same_Some y x e)
 ok_of_some (Err d) x e = absurd cc

@@ -6,7 +6,6 @@ pub mod LineLemmas
 pub mod MatchLemmas
 pub mod OutputLemmas
 pub mod PlaceLemmas
-pub mod ScriptLemmas
 pub mod SpelledLemmas
 pub mod VisibleLemmas
 pub mod WordLemmas

@@ -38,7 +38,7 @@ use Rattle.farm_script.specs.declared.event.EventKind.TheVariants.{Beat, Restart
 use Rattle.farm_script.specs.declared.lines.Scopes.{Scopes}
 use Rattle.farm_script.specs.declared.lines.Scopes.TheVariants.{Taken}
 use Rattle.farm_script.specs.declared.lines.SetupLine.{SetupLine}
-use Rattle.farm_script.specs.declared.lines.SetupLine.TheVariants.{VersionTwo, Scheduler, Server, Builder}
+use Rattle.farm_script.specs.declared.lines.SetupLine.TheVariants.{Version2, Scheduler, Server, Builder}
 use Rattle.farm_script.specs.declared.lines.Line.{Line}
 use Rattle.farm_script.specs.declared.lines.Line.TheVariants as lines
 use Rattle.farm_script.proofs.VisibleLemmas.{both}
@@ -50,7 +50,7 @@ use Rattle.farm_script.proofs.WordLemmas.{behind_is, behind_cases}
 use Rattle.farm_script.proofs.FieldLemmas.{number_law, code_law, addr_law, host_law, token_law, hex_law}
 use Rattle.farm_script.proofs.FieldLemmas.{key_law, addr_lacks, host_lacks, host_taken, token_lacks}
 use Rattle.farm_script.proofs.FieldLemmas.{code_lacks, hex_lacks, key_lacks, decimal_digits, decimal_lacks}
-use Rattle.farm_script.proofs.FieldLemmas.{choice}
+use Rattle.line_program.proofs.FirstFaultyLemmas.{choice}
 use Rattle.farm_script.proofs.OutputLemmas.{Output, outputs_sound, outputs_complete}
 
 -- ---- the scheduler
@@ -598,9 +598,9 @@ worded_sound scopes t l e =
 said_sound : (scopes : Scopes) (t : List ℕ) (l : Line) → said_at scopes t ≡ Some l → Spells scopes t l
 unfolding said_at
 said_sound scopes t l e =
-    let two : Option Line = Some (lines.Setup VersionTwo) in
+    let two : Option Line = Some (lines.Setup Version2) in
     elim (choice (pointwise nat_eq t (codes "version 2")) two (by_first_word scopes t) (Some l) e) [
-      | inl p ↦ subst (Spells scopes t) (same_Some (lines.Setup VersionTwo) l p.1)
+      | inl p ↦ subst (Spells scopes t) (same_Some (lines.Setup Version2) l p.1)
           ((bytes_eq-Decides t (codes "version 2")).0 p.0)
       | inr p ↦ worded_sound scopes t l p.1
     ]
@@ -663,7 +663,7 @@ pub line_complete : (scopes : Scopes) (t : List ℕ) (l : Line) → Spells scope
 unfolding line_at said_at
 line_complete scopes t lines.Skip (inl e) = ap (line_at scopes) e
 line_complete scopes t lines.Skip (inr p) = ap (line_at scopes) p.1
-line_complete scopes t (lines.Setup VersionTwo) is = ap (line_at scopes) is
+line_complete scopes t (lines.Setup Version2) is = ap (line_at scopes) is
 line_complete scopes t (lines.Setup (Scheduler s)) is =
     let p = scheduler_complete scopes t s is in
     ap (line_at scopes) p.1 ∙ scheduler_first scopes p.0
@@ -718,7 +718,7 @@ kind_taken scopes t (Restart server key nonce) is = record {
 
 pub spells_taken : (scopes : Scopes) (t : List ℕ) (l : Line) → Spells scopes t l → Spells Taken t l
 spells_taken scopes t lines.Skip is = is
-spells_taken scopes t (lines.Setup VersionTwo) is = is
+spells_taken scopes t (lines.Setup Version2) is = is
 spells_taken scopes t (lines.Setup (Scheduler s)) is = record {
   addr = is.addr;
   client = is.client;

@@ -1,17 +1,17 @@
 -- What was read so far is what the lines so far say.
 use Rattle.std.proofs.Common.{◌≡◌, ◌≢◌, ℕ, ◌≤◌, Bool, true, false, not, cond, ◌||◌, nat_le, append_assoc}
 use Rattle.std.proofs.Common.{List, [], ◌∷◌, ◌++◌, length, map, Option, Some, None, refl, sym, ap, subst, ◌∙◌}
-use Rattle.std.proofs.Common.{append-nil, inl, inr, arith}
+use Rattle.std.proofs.Common.{inl, inr, arith}
 use Rattle.std.specs.Prelude.{option_to_list}
-use Rattle.std.specs.List.{filter_map, list_any, cons_option, AllByRecursion}
+use Rattle.std.specs.List.{filter_map, list_any, AllByRecursion}
 use Rattle.std.proofs.lemmas.Bool.{or_parts, cases_Bool, leb-false}
 use Rattle.std.proofs.lemmas.Option.{same_Some}
 use Rattle.std.proofs.lemmas.List.{map-append, length-append, length-map}
-use Rattle.std.proofs.lemmas.List.Elements.{filter_map-append}
 use Rattle.dist_types.specs.declared.addr.Addr.{Addr}
 use Rattle.dist_types.specs.Addr.{same_addr}
 use Rattle.dist_types.specs.declared.rules.Rules.{Rules}
 use Rattle.dist_types.specs.declared.rules.Rules.TheVariants.{One, Two}
+use Rattle.line_program.proofs.FirstFaultyLemmas.{push_none, push_some}
 use Rattle.farm_script.specs.declared.setup.BuilderLine.{BuilderLine}
 use Rattle.farm_script.specs.declared.setup.SetupAuth.{SetupAuth}
 use Rattle.farm_script.specs.declared.setup.SetupAuth.TheVariants.{Plain, Jwt}
@@ -19,7 +19,7 @@ use Rattle.farm_script.specs.declared.setup.SetupScheduler.{SetupScheduler}
 use Rattle.farm_script.specs.declared.setup.SetupServer.{SetupServer}
 use Rattle.farm_script.specs.declared.event.Event.{Event}
 use Rattle.farm_script.specs.declared.lines.Scopes.TheVariants.{Refused}
-use Rattle.farm_script.specs.declared.lines.SetupLine.TheVariants.{VersionTwo, Scheduler, Server, Builder}
+use Rattle.farm_script.specs.declared.lines.SetupLine.TheVariants.{Version2, Scheduler, Server, Builder}
 use Rattle.farm_script.specs.declared.lines.Line.{Line}
 use Rattle.farm_script.specs.declared.lines.Line.TheVariants as lines
 use Rattle.farm_script.specs.Grammar.{IsToken, HasKeyLength, IsAuth, IsLine, IsSchedulerLine, IsServerLine}
@@ -33,14 +33,10 @@ use Rattle.farm_script.proofs.PlaceLemmas.{same_is, same_self}
 
 -- ---- lists
 
-pub push_none : {X : Type 0} (h : Line → Option X) (said : List Line) (l : Line) → h l ≡ None
-    → filter_map h (said ++ l ∷ []) ≡ filter_map h said
-push_none h said l e = filter_map-append h said (l ∷ []) ∙ ap (λ o. filter_map h said ++ cons_option o []) e
-    ∙ append-nil (filter_map h said)
-
-pub push_some : {X : Type 0} (h : Line → Option X) (said : List Line) (l : Line) (x : X) → h l ≡ Some x
-    → filter_map h (said ++ l ∷ []) ≡ filter_map h said ++ x ∷ []
-push_some h said l x e = filter_map-append h said (l ∷ []) ∙ ap (λ o. filter_map h said ++ cons_option o []) e
+-- the first of its kind
+pub pushed_first : (xs : List ℕ) (n : ℕ) → not (is_nil xs) ≡ false → xs ++ n ∷ [] ≡ n ∷ []
+pushed_first [] n e = refl
+pushed_first (x ∷ xs) n e = absurd cc
 
 map_same : (f g : SetupServer → SetupServer) → ((s : SetupServer) → f s ≡ g s) → (ss : List SetupServer)
     → map f ss ≡ map g ss
@@ -446,10 +442,10 @@ pub matches_next : (r : Read) (said : List Line) (t : List ℕ) (l : Line) → M
 matches_next r said t lines.Skip m is e d =
     matches_quiet r said lines.Skip refl refl (λ a. refl) m r.rules (rules_off said lines.Skip refl ∙ m.rules)
     r.events (push_none event_in said lines.Skip refl ∙ m.events)
-matches_next r said t (lines.Setup VersionTwo) m is e d =
-    matches_quiet r said (lines.Setup VersionTwo) refl refl (λ a. refl) m Two
-    (rules_on said (lines.Setup VersionTwo) refl) r.events
-    (push_none event_in said (lines.Setup VersionTwo) refl ∙ m.events)
+matches_next r said t (lines.Setup Version2) m is e d =
+    matches_quiet r said (lines.Setup Version2) refl refl (λ a. refl) m Two
+    (rules_on said (lines.Setup Version2) refl) r.events
+    (push_none event_in said (lines.Setup Version2) refl ∙ m.events)
 matches_next r said t (lines.Setup (Scheduler s)) m is e d = matches_scheduler r said t s is e m
 matches_next r said t (lines.Setup (Server s)) m is e d = matches_server r said t s is e d m
 matches_next r said t (lines.Setup (Builder addr answer)) m is e d = matches_builder r said addr answer e m

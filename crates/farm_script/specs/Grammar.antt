@@ -23,7 +23,7 @@ use Rattle.farm_script.specs.declared.event.EventKind.{EventKind}
 use Rattle.farm_script.specs.declared.event.EventKind.TheVariants.{Request, Deliver, Fail, Return, Answer}
 use Rattle.farm_script.specs.declared.event.EventKind.TheVariants.{Beat, Restart}
 use Rattle.farm_script.specs.declared.lines.SetupLine.{SetupLine}
-use Rattle.farm_script.specs.declared.lines.SetupLine.TheVariants.{VersionTwo, Scheduler, Server, Builder}
+use Rattle.farm_script.specs.declared.lines.SetupLine.TheVariants.{Version2, Scheduler, Server, Builder}
 use Rattle.farm_script.specs.declared.lines.Line.{Line}
 use Rattle.farm_script.specs.declared.lines.Line.TheVariants as lines
 
@@ -134,7 +134,7 @@ pub record IsBuilderLine (t : List ℕ) (named : Addr) (answer : BuilderLine) : 
 
 -- how the farm is set up
 abbrev pub IsSetupLine : Scopes → List ℕ → SetupLine → Type 0
-IsSetupLine scopes t VersionTwo = t ≡ codes "version 2"
+IsSetupLine scopes t Version2 = t ≡ codes "version 2"
 IsSetupLine scopes t (Scheduler s) = IsSchedulerLine scopes t s
 IsSetupLine scopes t (Server s) = IsServerLine scopes t s
 IsSetupLine scopes t (Builder addr answer) = IsBuilderLine t addr answer

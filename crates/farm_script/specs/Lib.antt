@@ -3,6 +3,7 @@ pub mod FirstFaulty
 pub mod Grammar
 pub mod Lines
 pub mod Place
+pub mod Reader
 pub mod Reading
 pub mod Script
 pub mod Setups

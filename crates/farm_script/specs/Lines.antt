@@ -17,7 +17,7 @@ use Rattle.farm_script.specs.declared.event.EventKind.{EventKind}
 use Rattle.farm_script.specs.declared.event.EventKind.TheVariants.{Request, Deliver, Fail, Return, Answer}
 use Rattle.farm_script.specs.declared.event.EventKind.TheVariants.{Beat, Restart}
 use Rattle.farm_script.specs.declared.lines.SetupLine.{SetupLine}
-use Rattle.farm_script.specs.declared.lines.SetupLine.TheVariants.{VersionTwo, Scheduler, Server, Builder}
+use Rattle.farm_script.specs.declared.lines.SetupLine.TheVariants.{Version2, Scheduler, Server, Builder}
 use Rattle.farm_script.specs.declared.lines.Line.{Line}
 use Rattle.farm_script.specs.declared.lines.Line.TheVariants as lines
 
@@ -162,7 +162,7 @@ by_first_word scopes t =
 -- what a line says that is not skipped: version 2, or what its first word says
 unfoldable pub said_at : Scopes → List ℕ → Option Line
 said_at scopes t =
-    if pointwise nat_eq t (codes "version 2") then Some (lines.Setup VersionTwo) else by_first_word scopes t
+    if pointwise nat_eq t (codes "version 2") then Some (lines.Setup Version2) else by_first_word scopes t
 
 -- the value that the whole line spells, if it spells one
 unfoldable pub line_at : Scopes → List ℕ → Option Line

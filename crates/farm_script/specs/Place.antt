@@ -9,14 +9,14 @@ use Rattle.dist_types.specs.declared.rules.Rules.TheVariants.{One, Two}
 use Rattle.farm_script.specs.declared.setup.SetupScheduler.{SetupScheduler}
 use Rattle.farm_script.specs.declared.setup.SetupServer.{SetupServer}
 use Rattle.farm_script.specs.declared.event.Event.{Event}
-use Rattle.farm_script.specs.declared.lines.SetupLine.TheVariants.{VersionTwo, Scheduler, Server, Builder}
+use Rattle.farm_script.specs.declared.lines.SetupLine.TheVariants.{Version2, Scheduler, Server, Builder}
 use Rattle.farm_script.specs.declared.lines.Line.{Line}
 use Rattle.farm_script.specs.declared.lines.Line.TheVariants as lines
 
 -- whether the line says version 2 of the rules
 abbrev pub says_two : Line → Bool
 says_two lines.Skip = false
-says_two (lines.Setup VersionTwo) = true
+says_two (lines.Setup Version2) = true
 says_two (lines.Setup (Scheduler s)) = false
 says_two (lines.Setup (Server s)) = false
 says_two (lines.Setup (Builder addr answer)) = false
@@ -34,7 +34,7 @@ rules_in said = if list_any says_two said then Two else One
 -- the scheduler that the line says, if it says one
 abbrev pub scheduler_in : Line → Option SetupScheduler
 scheduler_in lines.Skip = None
-scheduler_in (lines.Setup VersionTwo) = None
+scheduler_in (lines.Setup Version2) = None
 scheduler_in (lines.Setup (Scheduler s)) = Some s
 scheduler_in (lines.Setup (Server s)) = None
 scheduler_in (lines.Setup (Builder addr answer)) = None
@@ -43,7 +43,7 @@ scheduler_in (lines.Event e) = None
 -- the build server that the line says, if it says one
 abbrev pub server_in : Line → Option SetupServer
 server_in lines.Skip = None
-server_in (lines.Setup VersionTwo) = None
+server_in (lines.Setup Version2) = None
 server_in (lines.Setup (Scheduler s)) = None
 server_in (lines.Setup (Server s)) = Some s
 server_in (lines.Setup (Builder addr answer)) = None
@@ -85,7 +85,7 @@ has_addr addr addrs = list_any (λ a. same_addr a addr) addrs
 -- most 1,000 servers, and behind a server the answers of its builder.
 abbrev pub misplaced : Before → Line → Bool
 misplaced b lines.Skip = false
-misplaced b (lines.Setup VersionTwo) = not (is_nil b.events) || not (is_nil b.schedulers) || b.two
+misplaced b (lines.Setup Version2) = not (is_nil b.events) || not (is_nil b.schedulers) || b.two
 misplaced b (lines.Setup (Scheduler s)) = not (is_nil b.events) || not (is_nil b.schedulers)
 misplaced b (lines.Setup (Server s)) = not (is_nil b.events) || is_nil b.schedulers
     || nat_le 1000 (length b.servers)
@@ -95,7 +95,7 @@ misplaced b (lines.Event e) = false
 -- a server at the address of the scheduler or of another server
 abbrev pub duplicate : Before → Line → Bool
 duplicate b lines.Skip = false
-duplicate b (lines.Setup VersionTwo) = false
+duplicate b (lines.Setup Version2) = false
 duplicate b (lines.Setup (Scheduler s)) = false
 duplicate b (lines.Setup (Server s)) = has_addr s.addr b.schedulers || has_addr s.addr b.servers
 duplicate b (lines.Setup (Builder addr answer)) = false

@@ -7,17 +7,18 @@ use Rattle.farm_script.specs.declared.setup.BuilderLine.{BuilderLine}
 use Rattle.farm_script.specs.declared.setup.Setup.{Setup}
 use Rattle.farm_script.specs.declared.setup.SetupServer.{SetupServer}
 use Rattle.farm_script.specs.declared.event.Event.{Event}
-use Rattle.farm_script.specs.declared.lines.SetupLine.TheVariants.{VersionTwo, Scheduler, Server, Builder}
+use Rattle.farm_script.specs.declared.lines.SetupLine.TheVariants.{Version2, Scheduler, Server, Builder}
 use Rattle.farm_script.specs.declared.lines.Line.{Line}
 use Rattle.farm_script.specs.declared.lines.Line.TheVariants as lines
-use Rattle.line_program.specs.Pieces.{pieces, text_of}
+use Rattle.line_program.specs.FirstFaulty.{EachLine}
+use Rattle.line_program.specs.Pieces.{pieces}
 use Rattle.farm_script.specs.Grammar.{IsLine}
 use Rattle.farm_script.specs.Place.{rules_in, scheduler_in, server_in, event_in}
 
 -- the answer that the line gives to the builder at an address, if it gives one
 abbrev pub answer_for : Addr → Line → Option BuilderLine
 answer_for addr lines.Skip = None
-answer_for addr (lines.Setup VersionTwo) = None
+answer_for addr (lines.Setup Version2) = None
 answer_for addr (lines.Setup (Scheduler s)) = None
 answer_for addr (lines.Setup (Server s)) = None
 answer_for addr (lines.Setup (Builder named answer)) = if same_addr addr named then Some answer else None
@@ -27,18 +28,11 @@ answer_for addr (lines.Event e) = None
 abbrev pub with_answers : List Line → SetupServer → SetupServer
 with_answers said s = record s { builder = filter_map (answer_for s.addr) said }
 
--- each line, without its end, spells its value
-abbrev pub EachLine : List (List ℕ) → List Line → Type 0
-EachLine [] [] = Unit {0}
-EachLine (p ∷ ps) (l ∷ ls) = IsLine (text_of p) l × EachLine ps ls
-EachLine [] (l ∷ ls) = ⊥
-EachLine (p ∷ ps) [] = ⊥
-
 -- The script's lines spell values: they say the rules, one is the scheduler, others are the servers, each with
 -- the answers of its builder, and others are the events, in order.
 pub record SpellsScript (bytes : List ℕ) (setup : Setup) (events : List Event) : Type 0 where
   pub lines : List Line
-  pub each : EachLine (pieces bytes) lines
+  pub each : EachLine IsLine (pieces bytes) lines
   pub rules_are : rules_in lines ≡ setup.rules
   pub scheduler_is : filter_map scheduler_in lines ≡ setup.scheduler ∷ []
   pub servers_are : map (with_answers lines) (filter_map server_in lines) ≡ setup.servers

@@ -11,6 +11,7 @@ pub mod event;
 pub mod fields;
 pub mod laws;
 pub mod lines;
+pub mod reader;
 pub mod script;
 pub mod setup;
 pub mod words;

@@ -32,7 +32,7 @@ pub enum Scopes {
 #[derive(Debug, Drop)]
 pub enum SetupLine {
     /// That the farm goes by version 2 of the rules.
-    VersionTwo,
+    Version2,
     /// What the scheduler is.
     Scheduler(SetupScheduler),
     /// A build server, whose builder has no answers yet.
@@ -291,7 +291,7 @@ fn said(alloc: Global, scopes: Scopes, text: &[u8]) -> Result<Line, LineFault>
     ensures { IsLineAnswer (λ x. x) result (said_at scopes text.now) }
 {
     if text == b"version 2".as_slice() {
-        return Ok(Line::Setup(SetupLine::VersionTwo));
+        return Ok(Line::Setup(SetupLine::Version2));
     }
     if let Some(rest) = text.strip_prefix(b"scheduler ".as_slice()) {
         let scheduler = scheduler(alloc, scopes, rest)?;
@@ -311,7 +311,7 @@ fn said(alloc: Global, scopes: Scopes, text: &[u8]) -> Result<Line, LineFault>
 
 /// What a line says, without its end. A line with a scoped address is read only where those are taken.
 #[tactic(auto, unfolding(crate::specs::Lines::line_at))]
-pub fn read_line(alloc: Global, scopes: Scopes, text: &[u8]) -> Result<Line, LineFault>
+pub fn line_with(alloc: Global, scopes: Scopes, text: &[u8]) -> Result<Line, LineFault>
     ensures { IsLineAnswer (λ x. x) result (line_at scopes text.now) }
 {
     match text {

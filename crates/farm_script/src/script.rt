@@ -7,19 +7,21 @@ ghost use Rattle.farm_script.specs.Place.{is_two, misplaced, duplicate, has_addr
 ghost use Rattle.farm_script.specs.FirstFaulty.{IsFirstFaulty};
 ghost use Rattle.farm_script.specs.Spelled.{SpellsScript};
 ghost use Rattle.farm_script.specs.Setups.{IsSetup};
-ghost use Rattle.farm_script.specs.Script.{read_of, before, answered, with_line, onto, fault_of};
-ghost use Rattle.farm_script.specs.Script.{take_line, finished, script, IsScriptFault, IsScriptAnswer};
+ghost use Rattle.farm_script.specs.Script.{read_of, before, answered, with_line, line_reader};
+ghost use Rattle.farm_script.specs.Script.{take_line, finished, script};
 ghost use Rattle.line_program.specs.declared.fault.FarmFault.TheVariants as fault;
-ghost use Rattle.line_program.specs.Lines.{fits};
+ghost use Rattle.line_program.specs.Lines.{fits, IsScriptAnswer};
+ghost use Rattle.line_program.specs.Reader.{onto, fault_of};
 ghost use Rattle.farm_script.specs.declared.lines.Scopes.TheVariants.{Taken};
 
 use crate::event::Event;
-use crate::lines::{Line, Scopes, SetupLine, read_line};
+use crate::lines::{Line, Scopes, SetupLine, line_with};
+use crate::reader::{LineFault, read_line};
 use crate::setup::{BuilderLine, Setup, SetupScheduler, SetupServer};
 use dist_types::addr::Addr;
 use dist_types::rules::Rules;
 use dist_types::text::Items;
-use line_program::fault::{FarmFault, LineFault};
+use line_program::fault::{FarmFault, LineFault as ScopesFault};
 use line_program::limits::{MAX_BYTES, MAX_LINES};
 use line_program::pieces::{first_len, is_within, text};
 use std::alloc::{AllocError, Global};
@@ -70,14 +72,15 @@ fn is_two(rules: Rules) -> bool
     }
 }
 
-fn is_misplaced_setup(reading: &Reading, line: &SetupLine) -> bool
+/// Whether a line of a setup stands where its kind does not belong.
+pub fn is_misplaced_setup(reading: &Reading, line: &SetupLine) -> bool
     ensures { result ≡ misplaced (before (read_of reading.now)) (Line.Setup line.now) }
 {
     if !reading.events.is_empty() {
         return true;
     }
     match line {
-        SetupLine::VersionTwo => reading.scheduler.is_some() || is_two(reading.rules),
+        SetupLine::Version2 => reading.scheduler.is_some() || is_two(reading.rules),
         SetupLine::Scheduler(_) => reading.scheduler.is_some(),
         SetupLine::Server(_) => reading.scheduler.is_none() || reading.servers.len() >= MAX_SERVERS,
         SetupLine::Builder(addr, _) => !has_server(&reading.servers, addr),
@@ -103,11 +106,12 @@ fn is_taken(reading: &Reading, addr: &Addr) -> bool
     is_at(&reading.scheduler, addr) || has_server(&reading.servers, addr)
 }
 
-fn is_duplicate_setup(reading: &Reading, line: &SetupLine) -> bool
+/// Whether a line of a setup is a server at an address that stands before.
+pub fn is_duplicate_setup(reading: &Reading, line: &SetupLine) -> bool
     ensures { result ≡ duplicate (before (read_of reading.now)) (Line.Setup line.now) }
 {
     match line {
-        SetupLine::VersionTwo => false,
+        SetupLine::Version2 => false,
         SetupLine::Scheduler(_) => false,
         SetupLine::Server(server) => is_taken(reading, &server.addr),
         SetupLine::Builder(_, _) => false,
@@ -154,7 +158,8 @@ fn add_answer(
     }
 }
 
-fn with_setup(alloc: Global, reading: Reading, line: SetupLine) -> Result<Reading, AllocError>
+/// What was read, with what one more line of a setup says.
+pub fn with_setup(alloc: Global, reading: Reading, line: SetupLine) -> Result<Reading, AllocError>
     ensures { IfOk result (λ r. read_of r ≡ with_line (read_of reading) (Line.Setup line)) }
 {
     let Reading {
@@ -164,7 +169,7 @@ fn with_setup(alloc: Global, reading: Reading, line: SetupLine) -> Result<Readin
         events,
     } = reading;
     match line {
-        SetupLine::VersionTwo => Ok(Reading {
+        SetupLine::Version2 => Ok(Reading {
             rules: Rules::Two,
             scheduler,
             servers,
@@ -225,7 +230,7 @@ fn with_line(alloc: Global, reading: Reading, line: Line) -> Result<Reading, All
 /// What was read, with what a line of this number says, where it stands in its place and its address is
 /// new.
 fn onto(alloc: Global, number: u64, reading: Reading, line: Line) -> Result<Reading, FarmFault>
-    ensures { IsScriptAnswer read_of result (onto number (read_of reading) line) }
+    ensures { IsScriptAnswer read_of result (onto line_reader number (read_of reading) line) }
 {
     if is_misplaced(&reading, &line) {
         return Err(FarmFault::BadLine(number));
@@ -242,9 +247,9 @@ fn onto(alloc: Global, number: u64, reading: Reading, line: Line) -> Result<Read
 /// Why the line of this number is faulty, whose addresses without scopes are in no line.
 fn scoped_or_bad(alloc: Global, number: u64, reading: &Reading, text: &[u8]) -> FarmFault
     ensures told { (result ≡ fault.Memory)
-        ⊎ (result ≡ fault_of number (read_of reading.now) (line_at Taken text.now)) }
+        ⊎ (result ≡ fault_of line_reader number (read_of reading.now) (line_at Taken text.now)) }
 {
-    match read_line(alloc, Scopes::Taken, text) {
+    match line_with(alloc, Scopes::Taken, text) {
         Ok(line) => {
             if is_misplaced(reading, &line) {
                 FarmFault::BadLine(number)
@@ -252,8 +257,8 @@ fn scoped_or_bad(alloc: Global, number: u64, reading: &Reading, text: &[u8]) -> 
                 FarmFault::ScopedAddress(number)
             }
         }
-        Err(LineFault::Bad) => FarmFault::BadLine(number),
-        Err(LineFault::Memory) => FarmFault::Memory,
+        Err(ScopesFault::Bad) => FarmFault::BadLine(number),
+        Err(ScopesFault::Memory) => FarmFault::Memory,
     }
 }
 
@@ -271,9 +276,10 @@ fn with_piece(
     if !is_within(number, room, piece) {
         return Err(FarmFault::BadLine(number));
     }
-    match read_line(alloc, Scopes::Refused, text(piece)) {
+    match read_line(alloc, text(piece)) {
         Ok(line) => onto(alloc, number, reading, line),
-        Err(LineFault::Bad) => Err(scoped_or_bad(alloc, number, &reading, text(piece))),
+        Err(LineFault::Bad) => Err(FarmFault::BadLine(number)),
+        Err(LineFault::Scoped) => Err(scoped_or_bad(alloc, number, &reading, text(piece))),
         Err(LineFault::Memory) => Err(FarmFault::Memory),
     }
 }

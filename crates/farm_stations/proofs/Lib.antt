@@ -1,2 +1,5 @@
+pub mod HandLemmas
+pub mod LeftLemmas
+pub mod RunLemmas
 pub mod StationLemmas
 pub mod UnlistedLemmas

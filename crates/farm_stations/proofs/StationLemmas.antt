@@ -10,7 +10,7 @@ use Rattle.toolchain_cache.specs.Archiving.{ArchivesReopen}
 use Rattle.lru_disk_cache.specs.Entries.{total}
 use Rattle.folders.specs.Held.{Held, Holds}
 use Rattle.lru_disk_cache.specs.Store.{OpenFails}
-use Rattle.lru_disk_cache.specs.declared.error.Error.{Error}
+use Rattle.dist_types.specs.declared.cache_error.Error.{Error}
 use Rattle.build_server.specs.Books.{Books}
 use Rattle.build_server.specs.Builds.{Builder}
 use Rattle.build_server.specs.declared.run.Ran.TheVariants as ran
@@ -18,7 +18,7 @@ use Rattle.farm_entries.specs.declared.site.SiteServer.{SiteServer as SetupServe
 use Rattle.farm_stations.specs.Post.{Post as Station, outside_of, closed_over, is_io, IsTelling, IsReopened}
 use Rattle.farm_stations.specs.Stations.{now_of, IsWell}
 use Rattle.farm_entries.specs.Weather.{weather_by, weather_of}
-use Rattle.farm_entries.specs.Weather.{Opens}
+use Rattle.farm_entries.specs.Weather.{Opens, OnlyClears}
 
 pub unmapped : {A B : Type 0} (f : A → B) (o : Option A) → option_map f o ≡ None → o ≡ None
 unmapped f None e = refl
@@ -42,12 +42,13 @@ pub reopens : {F E : Type 0} (held : F → Held) (capacity : ℕ) (old : Books) 
     → IfOk r (λ s. Holds (held origin) (λ files. s.archives ≡ opened_archives (codes "tc") capacity files))
     → IfOk r (λ s. (s.capacity ≡ capacity) × (s.path ≡ codes "tc"))
     → IfOk r (λ s. IsInStep s.path s.folder s.archives)
-    → IfOk r (λ s. s.folder.faults ≡ (held origin).faults) → IfOk r (IsReopened held true capacity old)
+    → IfOk r (λ s. s.folder.faults ≡ (held origin).faults)
+    → IfOk r (λ s. OnlyClears (held origin) s.folder) → IfOk r (IsReopened held true capacity old)
 reopens held capacity old archives most origin (Err e) from cap path same size fits law none opens at step
-    steady =
+    steady clears =
     tt
 reopens held capacity old archives most origin (Ok s) from cap path same size fits law none opens at step
-    steady =
+    steady clears =
     record {
       holds = none;
       origin = origin;
@@ -65,6 +66,7 @@ reopens held capacity old archives most origin (Ok s) from cap path same size fi
       path_is = at.1;
       step = step;
       steady = steady ∙ ap (λ (h : Held). h.faults) (sym from);
+      clears = subst (λ (h : Held). OnlyClears h s.folder) (sym from) clears;
     }
 
 -- the station of the next life, over those books
@@ -78,6 +80,7 @@ reborn st key nonce running books failed = record {
   failed = failed;
   builds = st.builds;
   builder = st.builder;
+  hand = st.hand;
 }
 
 some_is : {X : Type 0} (o : Option X) → is_some o ≡ true → (x : X) × (o ≡ Some x)
@@ -91,7 +94,7 @@ module _ {F : Type 0} (held : F → Held) (s : SetupServer) (st : Station) (new 
 
   kept : st.running ≡ true → st.failed ≡ false → Holds st.state.folder (λ files. new.archives
       ≡ st.state.archives)
-  kept runs sound = is.keeps runs ((well runs).step sound)
+  kept runs sound = is.keeps runs ((well.0 runs).step sound)
 
   pub opened_so : (st.builder ≡ None → IsTelling held) → (st.builder ≡ None → st.running ≡ true)
       → Opens (weather_of (outside_of st) (outside_of next)) (now_of s st) (Some new.archives)
@@ -102,13 +105,14 @@ module _ {F : Type 0} (held : F → Held) (s : SetupServer) (st : Station) (new 
       by_builder None e =
           let (files, are) = some_is (held is.origin).files (tells e is.origin) in
           let told : st.state.folder.files ≡ Some files = ap (λ (h : Held). h.files) is.from ∙ are in
-          ap (λ (a : Archives). Some a) (kept (runs e) ((well (runs e)).own e) files told)
+          ap (λ (a : Archives). Some a) (kept (runs e) ((well.0 (runs e)).own e) files told)
       by_builder (Some b) e = (
         is.archives,
         (λ files told runs sound. kept runs sound files told),
         refl,
         is.steady,
         refl,
+        is.clears,
       )
 
 -- the same in the words of a call

@@ -1,3 +1,5 @@
+pub mod Hands
+pub mod Left
 pub mod Lined
 pub mod Post
 pub mod Stations

@@ -1,16 +1,18 @@
 -- What contracts see of the station of a build server.
 use Rattle.std.specs.Prelude.{◌≡◌, ℕ, List, [], Bool, true, false, is_some, Option, Some, None, codes}
 use Rattle.toolchain_cache.specs.Archives.{IsInStep, opened_archives}
-use Rattle.lru_disk_cache.specs.declared.error.Error.{Error}
-use Rattle.lru_disk_cache.specs.declared.error.Error.TheVariants.{Io}
+use Rattle.dist_types.specs.declared.cache_error.Error.{Error}
+use Rattle.dist_types.specs.declared.cache_error.Error.TheVariants.{Io}
 use Rattle.folders.specs.Held.{Held, Holds}
 use Rattle.build_server.specs.Books.{Books}
 use Rattle.build_server.specs.Builds.{Builder}
-use Rattle.farm_entries.specs.Weather.{Outside}
+use Rattle.farm_entries.specs.Passage.{Leaves}
+use Rattle.farm_entries.specs.Weather.{Outside, OnlyClears}
+use Rattle.farm_stations.specs.Hands.{Hand, IsCalled}
 
 -- A station: the number of its life with that life's nonce and key, whether it runs, what it keeps, whether
--- its folder failed since its last opening began, how many builds its builder was asked for, and a builder
--- that was handed in.
+-- its folder failed since its last opening began, how many builds its builder was asked for, a builder that
+-- was handed in, and the builder that it asks, whoever made it.
 pub record Post : Type 0 where
   pub life : ℕ
   pub nonce : ℕ
@@ -20,6 +22,7 @@ pub record Post : Type 0 where
   pub failed : Bool
   pub builds : ℕ
   pub builder : Option Builder
+  pub hand : Hand
 
 -- what a station keeps over that folder, where its cache is not open
 abbrev pub closed_over : Option Held → Books
@@ -39,6 +42,19 @@ shelf (Some books) closed = books
 -- what is outside of it
 abbrev pub outside_of : Post → Outside
 outside_of st = record { failed = st.failed; folder = st.state.folder; builder = st.builder }
+
+-- what is around a station: what is outside of it, and the builder that it asks
+pub record Around : Type 0 where
+  pub outside : Outside
+  pub hand : Hand
+
+abbrev pub around_of : Post → Around
+around_of st = record { outside = outside_of st; hand = st.hand }
+
+-- what one event leaves around the server that it reaches for
+pub record LeavesAround (old new : Around) : Type 0 where
+  pub leaves : Leaves old.outside new.outside
+  pub called : IsCalled old.hand new.hand
 
 -- ---- openings
 
@@ -65,3 +81,4 @@ pub record IsReopened {F : Type 0} (held : F → Held) (ran : Bool) (capacity : 
   pub path_is : new.path ≡ codes "tc"
   pub step : IsInStep new.path new.folder new.archives
   pub steady : new.folder.faults ≡ old.folder.faults
+  pub clears : OnlyClears old.folder new.folder

@@ -1,5 +1,6 @@
 -- What the stations of a farm's build servers hold.
-use Rattle.std.specs.Prelude.{◌≡◌, ℕ, List, ◌∷◌, length, map, slice_get, set, true, false, Option, Some, None}
+use Rattle.std.specs.Prelude.{◌≡◌, ℕ, List, [], ◌∷◌, length, map, drop, slice_get, set, true, false, is_some}
+use Rattle.std.specs.Prelude.{Option, Some, None}
 use Rattle.std.specs.Prelude.{codes, Ok}
 use Rattle.toolchain_cache.specs.Archives.{Archives, IsInStep}
 use Rattle.farm_script.specs.Setups.{AreApart}
@@ -8,9 +9,10 @@ use Rattle.farm_entries.specs.declared.site.SiteServer.{SiteServer as SetupServe
 use Rattle.farm_entries.specs.declared.entry.Entry.{Entry}
 use Rattle.farm_entries.specs.declared.entry.Step.{Step}
 use Rattle.farm_entries.specs.declared.entry.Effect.{Effect}
-use Rattle.farm_entries.specs.Passage.{StaysOwn, LeavesOutside}
+use Rattle.farm_entries.specs.Passage.{Leaves, LeavesOutside}
+use Rattle.farm_stations.specs.Hands.{IsHandOf}
 use Rattle.farm_stations.specs.Post.{Post as Station, outside_of}
-use Rattle.farm_entries.specs.Servers.{ServerNow, restarted, stepped, server_of}
+use Rattle.farm_entries.specs.Servers.{ServerNow, listed_in, restarted, stepped, server_of}
 use Rattle.farm_entries.specs.Served.{build_answer}
 use Rattle.farm_entries.specs.Weather.{Opens, weather_of, opened_effect, IsOrdered, order_of}
 use Rattle.build_server.specs.Builds.{Builder, outcome_by}
@@ -31,6 +33,20 @@ now_of s st = record {
   builds = st.builds;
 }
 
+-- the server as it was set up, in its first life, with what its opening found and a builder that was asked for
+-- nothing
+abbrev pub begun_again : ServerNow → Option Archives → ServerNow
+begun_again now found = record {
+  setup = now.setup;
+  life = 0;
+  key = now.setup.key;
+  nonce = now.setup.nonce;
+  running = is_some found;
+  held = [];
+  archives = listed_in found;
+  builds = 0;
+}
+
 -- A cache that is open: it has the server's capacity, in one place of its folder, and lists what the folder
 -- holds, unless the folder failed since the opening began. A folder of the farm's own never fails.
 pub record IsOpen (s : SetupServer) (st : Station) : Type 0 where
@@ -39,9 +55,10 @@ pub record IsOpen (s : SetupServer) (st : Station) : Type 0 where
   pub step : st.failed ≡ false → IsInStep st.state.path st.state.folder st.state.archives
   pub own : st.builder ≡ None → st.failed ≡ false
 
--- a station of a server: where it runs its cache is open
+-- a station of a server: where it runs its cache is open, and the builder that it asks was handed in, or has
+-- the lines left that are not built
 abbrev pub IsWell : SetupServer → Station → Type 0
-IsWell s st = st.running ≡ true → IsOpen s st
+IsWell s st = (st.running ≡ true → IsOpen s st) × IsHandOf (drop st.builds s.builder) st.builder st.hand
 
 -- a build of what was taken out by a builder of the farm's own, which answers by its lines, or by one that
 -- was handed in
@@ -85,7 +102,7 @@ pub record IsRestartedSo (s : SetupServer) (st after : Station) (key : List ℕ)
   pub effect : x ≡ opened_effect (now_of s st) found
   pub now : now_of s after ≡ stepped x.step (restarted (Some (key, nonce)) (now_of s st))
   pub well : IsWell s after
-  pub own : StaysOwn (outside_of st) (outside_of after)
+  pub leaves : Leaves (outside_of st) (outside_of after)
 
 -- the same at a place; no other station did anything
 pub record IsRestartAt (s : SetupServer) (place : ℕ) (st : Station) (key : List ℕ) (nonce : ℕ) (x : Effect)

@@ -1,6 +1,7 @@
 //! Copies of setups. Each is refused for want of memory alone.
-ghost use Rattle.std.specs.Prelude.{◌≡◌, IfOk};
+ghost use Rattle.std.specs.Prelude.{◌≡◌, drop, IfOk};
 ghost use Rattle.farm_entries.specs.Sites.{site_server};
+ghost use Rattle.farm_stations.specs.Left.{with_left};
 
 use dist_types::fault::Memory;
 use dist_types::text::Items;
@@ -86,6 +87,36 @@ pub fn copy_server(
 {
     let key = server.key.clone()?;
     let builder = copy_lines(alloc, server.builder.get())?;
+    Ok(SiteServer {
+        addr: server.addr,
+        cpus: server.cpus,
+        nonce: server.nonce,
+        key,
+        capacity: server.capacity,
+        builder: Items::new(builder),
+        found,
+    })
+}
+
+/// The lines behind so many.
+fn lines_behind(lines: &[BuilderLine], count: u64) -> &[BuilderLine]
+    ensures { result.now ≡ drop count lines.now }
+{
+    let count = lines.len().min(count as usize);
+    lines.split_at(count).1
+}
+
+/// A copy of a server whose builder has answered so many builds, with what an opening found.
+pub fn copy_left(
+    alloc: Global,
+    server: &SiteServer,
+    builds: u64,
+    found: Option<Items<(Toolchain, u64)>>,
+) -> Result<SiteServer, Memory>
+    ensures { IfOk result (λ s. s ≡ with_left builds found server.now) }
+{
+    let key = server.key.clone()?;
+    let builder = copy_lines(alloc, lines_behind(server.builder.get(), builds))?;
     Ok(SiteServer {
         addr: server.addr,
         cpus: server.cpus,

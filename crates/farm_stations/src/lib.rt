@@ -6,7 +6,9 @@
 //! The layer above is `farm_run`, whose farms have a station for each server.
 #![tactic(auto)]
 
+pub mod build_row;
 pub mod builder;
 pub mod copies;
 pub mod folder_laws;
+pub mod own_builder;
 pub mod station;

@@ -1,30 +1,37 @@
 //! The stations of a farm's build servers.
 ghost use Rattle.std.specs.Prelude.{◌≡◌, ◌≢◌, ◌≤◌, [], true, false, not, codes, is_some, is_none, ◌&&◌, ◌||◌};
-ghost use Rattle.std.specs.Prelude.{slice_get, IfOk, IfErr, OnOk, OnErr, MatchOption, Some, None, Ok, Err};
+ghost use Rattle.std.specs.Prelude.{drop, cond, ◌<◌, ◌^◌};
+ghost use Rattle.std.specs.Prelude.{IfOk, IfErr, OnOk, OnErr, MatchOption, Some, None, Ok, Err};
 ghost use Rattle.std.specs.Option.{option_map};
 ghost use Rattle.toolchain_cache.specs.Archives.{opened_archives, IsInStep};
 ghost use Rattle.lru_disk_cache.specs.Entries.{total};
-ghost use Rattle.folders.specs.Held.{Holds};
+ghost use Rattle.folders.specs.Changed.{ButUnder};
+ghost use Rattle.folders.specs.Files.{front};
+ghost use Rattle.folders.specs.Held.{Holds, Became};
 ghost use Rattle.lru_disk_cache.specs.Store.{OpenFails};
 ghost use Rattle.build_server.specs.Books.{held_for, placed};
-ghost use Rattle.build_server.specs.Builds.{builder_of, Builds, ran_of, built_of, outcome_by};
-ghost use Rattle.build_server.specs.Rules.{assign_verdict};
+ghost use Rattle.build_server.specs.Builds.{builder_of, Builds, is_due, ran_of, built_of};
+ghost use Rattle.build_server.specs.Rules.{assign_verdict, Submits, Begins};
+ghost use Rattle.dist_types.specs.Cause.{counted};
 ghost use Rattle.dist_types.specs.declared.results.AssignJobResult.{AssignJobResult as Answer};
-ghost use Rattle.farm_entries.specs.Passage.{StaysOwn};
+ghost use Rattle.farm_entries.specs.Passage.{AsksOnce, IsAsked, Leaves};
+ghost use Rattle.farm_stations.specs.Hands.{handed_in, hand_by, HasLeft, IsCalled, IsGiven};
+ghost use Rattle.farm_stations.specs.Hands.{IsHandOf, KeepsWord};
+ghost use Rattle.farm_stations.specs.Left.{with_left};
 ghost use Rattle.farm_stations.specs.Post.{shelf, closed_over, outside_of, is_io, IsReopened, IsTelling};
 ghost use Rattle.farm_entries.specs.Sites.{site_server};
 ghost use Rattle.farm_entries.specs.Passage.{IsBegun};
 ghost use Rattle.farm_entries.specs.Reliable.{reopened};
-ghost use Rattle.farm_entries.specs.Served.{books_of, build_answer};
+ghost use Rattle.farm_entries.specs.Served.{books_of};
 ghost use Rattle.farm_entries.specs.Servers.{server_begun, stepped};
-ghost use Rattle.farm_stations.specs.Stations.{now_of, IsWell, BuildsBy};
+ghost use Rattle.farm_stations.specs.Stations.{now_of, begun_again, IsWell, BuildsBy};
 ghost use Rattle.farm_entries.specs.Weather.{Stores, Works, Opens, weather_of, failed_after_submit};
-ghost use Rattle.farm_entries.specs.Weather.{failed_after_run, order_of};
+ghost use Rattle.farm_entries.specs.Weather.{failed_after_run, order_of, OnlyClears};
 ghost use Rattle.farm_entries.specs.declared.entry.StepKind.TheVariants as kinds;
 ghost use Rattle.line_program.specs.declared.fault.FarmFault.TheVariants as fault;
 ghost use Rattle.build_server.specs.declared.fault.ServerFault.TheVariants as server_fault;
 
-use crate::builder::build_answer;
+use crate::own_builder::OwnBuilder;
 use build_server::Held;
 use build_server::fault::ServerFault;
 use build_server::run::{Ran, RunDone, RunHeld};
@@ -67,6 +74,8 @@ pub struct Station<F: Folder + Drop, B: BuilderIncoming + Drop> {
     builds: u64,
     /// A builder that was handed in; none where the farm made the builder, with a folder in memory.
     builder: Option<B>,
+    /// The builder that the farm made, if none was handed in.
+    own: Option<OwnBuilder<B>>,
 }
 
 impl<F: Folder + Drop, B: BuilderIncoming + Drop> Model for Station<F, B> {
@@ -74,6 +83,7 @@ impl<F: Folder + Drop, B: BuilderIncoming + Drop> Model for Station<F, B> {
     ghost use Rattle.std.specs.Option.{option_map};
     ghost use Rattle.build_server.specs.Builds.{builder_of};
     ghost use Rattle.std.specs.Prelude.{◌≡◌, None};
+    ghost use Rattle.farm_stations.specs.Hands.{hand_by};
     ghost use Rattle.farm_stations.specs.Post.{Post, shelf, IsTelling};
 
     ghost Value = { Post };
@@ -87,11 +97,13 @@ impl<F: Folder + Drop, B: BuilderIncoming + Drop> Model for Station<F, B> {
       failed = st.failed;
       builds = st.builds;
       builder = option_map (builder_of B.built B.refusals) st.builder;
+      hand = hand_by (option_map (builder_of B.built B.refusals) st.builder) st.own;
     } };
 
-    // Where the farm made the builder, its folder tells its files; and it has its folder.
+    // Where the farm made the builder, its folder tells its files; and it has its folder and its builder.
     ghost invariant = { λ st. (st.builder ≡ None → IsTelling F.held)
-        × ((is_some st.state || is_some st.closed) ≡ true) };
+        × ((is_some st.state || is_some st.closed) ≡ true)
+        × ((is_some st.builder || is_some st.own) ≡ true) };
 }
 
 /// A server that holds nothing, over what its folder has. Where that fails the folder is handed back.
@@ -106,7 +118,9 @@ fn open<F: Folder + Drop>(
     ensures at { IfOk result (λ s. (s.capacity ≡ capacity) × (s.path ≡ codes "tc")) }
     ensures step { IfOk result (λ s. IsInStep s.path s.folder s.archives) }
     ensures steady { IfOk result (λ s. s.folder.faults ≡ (F.held folder).faults) }
+    ensures clears { IfOk result (λ s. OnlyClears (F.held folder) s.folder) }
     ensures fails { IfErr result (λ e. OpenFails e.0 (F.held folder) (F.held e.1)) }
+    ensures left { IfErr result (λ e. OnlyClears (F.held folder) (F.held e.1)) }
 {
     match TcCache::new(alloc, folder, "tc", capacity) {
         Ok(cache) => Ok(ServerState::new(alloc, cache)),
@@ -136,6 +150,7 @@ fn open_again<F: Folder + Drop>(
     requires at { (state.capacity ≡ capacity) × (state.path ≡ codes "tc") }
     ensures opened { IfOk result (IsReopened F.held true capacity state) }
     ensures fails { IfErr result (λ e. OpenFails e.0 state.folder (F.held e.1)) }
+    ensures left { IfErr result (λ e. OnlyClears state.folder (F.held e.1)) }
 {
     let cache = state.into_cache();
     fits(&cache);
@@ -151,6 +166,7 @@ fn open_shut<F: Folder + Drop>(
 ) -> Result<ServerState<F>, (Error, F)>
     ensures opened { IfOk result (IsReopened F.held false capacity (closed_over (Some (F.held folder)))) }
     ensures fails { IfErr result (λ e. OpenFails e.0 (F.held folder) (F.held e.1)) }
+    ensures left { IfErr result (λ e. OnlyClears (F.held folder) (F.held e.1)) }
 {
     match open(alloc, folder, capacity) {
         Ok(state) => Ok(state),
@@ -171,6 +187,8 @@ fn open_over<F: Folder + Drop>(
     ensures opened { IfOk result
         (IsReopened F.held (is_some state) capacity (shelf state (option_map F.held closed))) }
     ensures fails { IfErr result (λ e. OpenFails e.0 (shelf state (option_map F.held closed)).folder
+        (F.held e.1)) }
+    ensures left { IfErr result (λ e. OnlyClears (shelf state (option_map F.held closed)).folder
         (F.held e.1)) }
 {
     match state {
@@ -243,38 +261,8 @@ fn is_io(error: &Error) -> bool
     }
 }
 
-/// A build of what was taken out, by a builder of the farm's own of which that line is due.
-fn build_listed(
-    alloc: Global,
-    server: &SiteServer,
-    builds: u64,
-    held: RunHeld,
-    run: &RunJobHttpRequest,
-    inputs: &[u8],
-) -> Result<RunDone, FarmFault>
-    ensures goes { IfOk result (λ done. outcome_by held
-        (build_answer (slice_get server.now.builder builds) run.now.outputs inputs.now) ≡ Ok done) }
-    ensures err { IfErr result (λ e. e ≡ fault.Memory) }
-{
-    let line = server.builder.get().get(builds as usize);
-    let heard = match build_answer(alloc, line, run.outputs.get(), inputs) {
-        Ok(heard) => heard,
-        Err(_) => {
-            held.give_up();
-            return Err(FarmFault::Memory);
-        }
-    };
-    match held.build_as(heard) {
-        Ok(done) => Ok(done),
-        Err((held, _)) => {
-            held.give_up();
-            Err(FarmFault::Memory)
-        }
-    }
-}
-
-/// A build of what was taken out, by a builder that was handed in.
-fn build_with<B: BuilderIncoming + Drop>(
+/// A build of what was taken out.
+fn build_with<B: BuilderIncoming>(
     builder: &mut B,
     held: RunHeld,
     run: &RunJobHttpRequest,
@@ -282,6 +270,9 @@ fn build_with<B: BuilderIncoming + Drop>(
 ) -> Result<RunDone, FarmFault>
     ensures builds { IfOk result (λ done. Builds held (order_of run.now inputs.now)
         (builder_of B.built B.refusals builder.old) (builder_of B.built B.refusals builder.new) (Ok done)) }
+    ensures asked { IsAsked (builder_of B.built B.refusals builder.old)
+        (builder_of B.built B.refusals builder.new) }
+    ensures answers { B.answers builder.new ≡ B.answers builder.old }
     ensures err { IfErr result (λ e. e ≡ fault.Memory) }
 {
     match held.build(builder, &run.command, run.outputs.get(), inputs) {
@@ -293,27 +284,69 @@ fn build_with<B: BuilderIncoming + Drop>(
     }
 }
 
-/// A build of what was taken out, by a builder that was handed in or one of the farm's own.
-fn build<B: BuilderIncoming + Drop>(
-    alloc: Global,
-    server: &SiteServer,
-    builds: u64,
-    builder: &mut Option<B>,
+/// The same by a builder that the farm made.
+fn build_own<B: BuilderIncoming + Drop>(
+    own: &mut OwnBuilder<B>,
     held: RunHeld,
     run: &RunJobHttpRequest,
     inputs: &[u8],
 ) -> Result<RunDone, FarmFault>
+    ensures builds { IfOk result
+        (λ done. Builds held (order_of run.now inputs.now) own.old.told own.new.told (Ok done)) }
+    ensures called { IsCalled own.old own.new }
+    ensures word { KeepsWord own.new }
+    ensures err { IfErr result (λ e. e ≡ fault.Memory) }
+{
+    let done = build_with(own, held, run, inputs);
+    own.keeps_word();
+    done
+}
+
+/// That a number fits its type.
+fn has_count(count: usize)
+    ensures { count < 2 ^ 64 }
+{
+    let _count = count;
+}
+
+/// A build of what was taken out, by a builder that was handed in or one of the farm's own.
+fn build<B: BuilderIncoming + Drop>(
+    server: &SiteServer,
+    builds: u64,
+    builder: &mut Option<B>,
+    own: &mut Option<OwnBuilder<B>>,
+    held: RunHeld,
+    run: &RunJobHttpRequest,
+    inputs: &[u8],
+) -> Result<RunDone, FarmFault>
+    requires there { (is_some builder.old || is_some own.old) ≡ true }
+    requires hand { IsHandOf (drop builds server.now.builder)
+        (option_map (builder_of B.built B.refusals) builder.old)
+        (hand_by (option_map (builder_of B.built B.refusals) builder.old) own.old) }
     ensures goes { IfOk result (λ done. BuildsBy server.now builds
         (option_map (builder_of B.built B.refusals) builder.old)
         (option_map (builder_of B.built B.refusals) builder.new) held run.now inputs.now done) }
+    ensures left { OnOk result (IsHandOf (drop (cond (is_due held) (counted builds) builds) server.now.builder)
+        (option_map (builder_of B.built B.refusals) builder.new)
+        (hand_by (option_map (builder_of B.built B.refusals) builder.new) own.new)) }
     ensures kept { is_some builder.new ≡ is_some builder.old }
+    ensures owned { is_some own.new ≡ is_some own.old }
+    ensures asked { AsksOnce (option_map (builder_of B.built B.refusals) builder.old)
+        (option_map (builder_of B.built B.refusals) builder.new) }
+    ensures called { IsCalled (hand_by (option_map (builder_of B.built B.refusals) builder.old) own.old)
+        (hand_by (option_map (builder_of B.built B.refusals) builder.new) own.new) }
     ensures err { IfErr result (λ e. e ≡ fault.Memory) }
 {
+    let lines = server.builder.get().len();
+    has_count(lines);
     match builder {
-        None => {
-            let done = build_listed(alloc, server, builds, held, run, inputs)?;
-            Ok(done)
-        }
+        None => match own {
+            None => unreachable!(),
+            Some(own) => {
+                let done = build_own(own, held, run, inputs)?;
+                Ok(done)
+            }
+        },
         Some(builder) => {
             let done = build_with(builder, held, run, inputs)?;
             Ok(done)
@@ -321,21 +354,129 @@ fn build<B: BuilderIncoming + Drop>(
     }
 }
 
+/// How many builds a builder was asked for, with one that was due or none.
+fn asked_for(builds: u64, due: bool) -> u64
+    ensures { result ≡ cond due (counted builds) builds }
+{
+    if due {
+        builds.saturating_add(1)
+    } else {
+        builds
+    }
+}
+
+/// Submits an archive, after Ready was accepted: as its state does, at its place in the folder.
+fn take_in<F: Folder>(
+    state: &mut ServerState<F>,
+    job: JobId,
+    archive: &[u8],
+    accepted: UpdateJobStateResult,
+) -> Result<Submitted, ServerFault>
+    requires path { state.old.path ≡ codes "tc" }
+    ensures submits { Submits job (Ok accepted) archive.now state.old state.new result }
+    ensures others { Became (ButUnder (front (codes "tc"))) state.old.folder.files state.new.folder.files }
+    ensures later { state.old.folder.faults ≤ state.new.folder.faults }
+{
+    let submit = state.begin_submit(job);
+    state.end_submit(submit, Ok(accepted), archive)
+}
+
+/// Takes a job out, after Started was accepted: as its state does, at its place in the folder.
+fn take_out<F: Folder>(
+    state: &mut ServerState<F>,
+    job: JobId,
+    accepted: UpdateJobStateResult,
+) -> Result<RunHeld, ServerFault>
+    requires path { state.old.path ≡ codes "tc" }
+    ensures begins { Begins job (Ok accepted) state.old state.new result }
+    ensures others { Became (ButUnder (front (codes "tc"))) state.old.folder.files state.new.folder.files }
+    ensures later { state.old.folder.faults ≤ state.new.folder.faults }
+{
+    state.begin_run(job, Ok(accepted))
+}
+
+/// The builder that a station asks.
+fn hand<B: BuilderIncoming + Drop>(builder: Option<B>, own: Option<OwnBuilder<B>>) -> B
+    requires there { (is_some builder || is_some own) ≡ true }
+    ensures { IsGiven (builder_of B.built B.refusals) B.answers
+        (hand_by (option_map (builder_of B.built B.refusals) builder) own) result }
+{
+    match builder {
+        Some(builder) => builder,
+        None => match own {
+            Some(own) => own.into_builder(),
+            None => unreachable!(),
+        },
+    }
+}
+
 impl<F: Folder + Drop, B: BuilderIncoming + Drop> Station<F, B> {
-    /// A server as it was set up, over that folder, with a builder that was handed in or none, and what its
-    /// opening found. Refused for want of memory alone.
+    /// A server as it was set up, over that folder, with a builder that was handed in, and what its opening
+    /// found. Refused for want of memory alone.
     pub fn begun(
         alloc: Global,
         server: &SetupServer,
         folder: F,
+        builder: B,
+    ) -> Result<(Self, Option<Items<(Toolchain, u64)>>), FarmFault>
+        ensures now { IfOk result (λ p. now_of (site_server p.1 server.now) p.0
+            ≡ server_begun (site_server p.1 server.now)) }
+        ensures well { IfOk result (λ p. IsWell (site_server p.1 server.now) p.0) }
+        ensures begun { IfOk result (λ p. IsBegun server.now.capacity
+            (Some (builder_of B.built B.refusals builder)) (F.held folder) p.1 (outside_of p.0)) }
+        ensures hand { IfOk result
+            (λ p. p.0.hand ≡ handed_in (builder_of B.built B.refusals builder)) }
+        ensures err { IfErr result (λ e. e ≡ fault.Memory) }
+    {
+        match Station::begun_with(alloc, server, folder, Some(builder), None) {
+            Ok(begun) => Ok(begun),
+            Err(fault) => Err(fault),
+        }
+    }
+
+    /// The same over a folder of the farm's own that tells its files, with a builder that the farm made for the
+    /// lines of the setup.
+    pub fn begun_own(
+        alloc: Global,
+        server: &SetupServer,
+        folder: F,
+        own: OwnBuilder<B>,
+    ) -> Result<(Self, Option<Items<(Toolchain, u64)>>), FarmFault>
+        requires tells { IsTelling F.held }
+        requires left { HasLeft server.now.builder own }
+        ensures now { IfOk result (λ p. now_of (site_server p.1 server.now) p.0
+            ≡ server_begun (site_server p.1 server.now)) }
+        ensures well { IfOk result (λ p. IsWell (site_server p.1 server.now) p.0) }
+        ensures begun { IfOk result
+            (λ p. IsBegun server.now.capacity None (F.held folder) p.1 (outside_of p.0)) }
+        ensures hand { IfOk result (λ p. p.0.hand ≡ own) }
+        ensures err { IfErr result (λ e. e ≡ fault.Memory) }
+    {
+        match Station::begun_with(alloc, server, folder, None, Some(own)) {
+            Ok(begun) => Ok(begun),
+            Err(fault) => Err(fault),
+        }
+    }
+
+    // A server as it was set up, with one of the two builders.
+    fn begun_with(
+        alloc: Global,
+        server: &SetupServer,
+        folder: F,
         builder: Option<B>,
+        own: Option<OwnBuilder<B>>,
     ) -> Result<(Self, Option<Items<(Toolchain, u64)>>), FarmFault>
         requires tells { option_map (builder_of B.built B.refusals) builder ≡ None → IsTelling F.held }
+        requires there { (is_some builder || is_some own) ≡ true }
+        requires hand { IsHandOf server.now.builder (option_map (builder_of B.built B.refusals) builder)
+            (hand_by (option_map (builder_of B.built B.refusals) builder) own) }
         ensures now { IfOk result (λ p. now_of (site_server p.1 server.now) p.0
             ≡ server_begun (site_server p.1 server.now)) }
         ensures well { IfOk result (λ p. IsWell (site_server p.1 server.now) p.0) }
         ensures begun { IfOk result (λ p. IsBegun server.now.capacity
             (option_map (builder_of B.built B.refusals) builder) (F.held folder) p.1 (outside_of p.0)) }
+        ensures hand { IfOk result
+            (λ p. p.0.hand ≡ hand_by (option_map (builder_of B.built B.refusals) builder) own) }
         ensures err { IfErr result (λ e. e ≡ fault.Memory) }
     {
         let authorizer = JWTJobAuthorizer::of_key(Vec::from_slice(alloc, server.key.get())?);
@@ -351,6 +492,7 @@ impl<F: Folder + Drop, B: BuilderIncoming + Drop> Station<F, B> {
                     failed: false,
                     builds: 0,
                     builder,
+                    own,
                 };
                 Ok((station, Some(found)))
             }
@@ -367,6 +509,7 @@ impl<F: Folder + Drop, B: BuilderIncoming + Drop> Station<F, B> {
                     failed: true,
                     builds: 0,
                     builder,
+                    own,
                 };
                 Ok((station, None))
             }
@@ -385,6 +528,13 @@ impl<F: Folder + Drop, B: BuilderIncoming + Drop> Station<F, B> {
         ensures { result ≡ self.now.nonce }
     {
         self.nonce
+    }
+
+    /// How many builds its builder was asked for.
+    pub fn builds(&self) -> u64
+        ensures { result ≡ self.now.builds }
+    {
+        self.builds
     }
 
     /// What makes and takes the tokens of its life.
@@ -428,10 +578,10 @@ impl<F: Folder + Drop, B: BuilderIncoming + Drop> Station<F, B> {
         }
     }
 
-    /// Its folder, and its builder where that was handed in.
-    pub fn into_parts(self) -> (F, Option<B>)
+    /// Its folder, and its builder, whoever made that.
+    pub fn into_parts(self) -> (F, B)
         ensures folder { F.held result.0 ≡ self.state.folder }
-        ensures builder { option_map (builder_of B.built B.refusals) result.1 ≡ self.builder }
+        ensures builder { IsGiven (builder_of B.built B.refusals) B.answers self.hand result.1 }
     {
         let Station {
             life: _,
@@ -442,7 +592,9 @@ impl<F: Folder + Drop, B: BuilderIncoming + Drop> Station<F, B> {
             failed: _,
             builds: _,
             builder,
+            own,
         } = self;
+        let builder = hand(builder, own);
         match state {
             Some(state) => (state.into_cache().into_folder(), builder),
             None => match closed {
@@ -468,6 +620,7 @@ impl<F: Folder + Drop, B: BuilderIncoming + Drop> Station<F, B> {
               kind = kinds.Assigned job tc (not a.need_toolchain);
             })) (now_of server.now self.old)) }
         ensures outside { outside_of self.new ≡ outside_of self.old }
+        ensures hand { self.new.hand ≡ self.old.hand }
         ensures still_well { OnOk result (IsWell server.now self.new) }
         ensures same { OnErr result (self.new ≡ self.old) }
     {
@@ -480,6 +633,7 @@ impl<F: Folder + Drop, B: BuilderIncoming + Drop> Station<F, B> {
 
     /// Submits an archive under a job, after Ready was accepted. That a folder of the farm's own fails is
     /// told as want of memory, which no farm meets.
+    #[tactic(auto, using(crate::proofs::LeftLemmas::leaves_same))]
     pub fn submit(
         &mut self,
         server: &SiteServer,
@@ -493,20 +647,18 @@ impl<F: Folder + Drop, B: BuilderIncoming + Drop> Station<F, B> {
         ensures after { IfOk result (λ o. now_of server.now self.new
             ≡ stepped (Some (record { server = server.now.addr; kind = kinds.Submitted job o }))
             (now_of server.now self.old)) }
-        ensures own { StaysOwn (outside_of self.old) (outside_of self.new) }
+        ensures leaves { Leaves (outside_of self.old) (outside_of self.new) }
+        ensures hand { self.new.hand ≡ self.old.hand }
         ensures still_well { OnOk result (IsWell server.now self.new) }
         ensures err { IfErr result (λ e. e ≡ fault.Memory) }
     {
         let _capacity = server.capacity;
         let outcome = match &mut self.state {
             None => return Err(FarmFault::Memory),
-            Some(state) => {
-                let submit = state.begin_submit(job);
-                match state.end_submit(submit, Ok(accepted), archive) {
-                    Ok(outcome) => outcome,
-                    Err(_) => return Err(FarmFault::Memory),
-                }
-            }
+            Some(state) => match take_in(state, job, archive, accepted) {
+                Ok(outcome) => outcome,
+                Err(_) => return Err(FarmFault::Memory),
+            },
         };
         if !broke(&outcome) {
             return Ok(outcome);
@@ -520,9 +672,9 @@ impl<F: Folder + Drop, B: BuilderIncoming + Drop> Station<F, B> {
 
     /// Takes a job out and builds it, after Started was accepted. That a folder of the farm's own fails is
     /// told as want of memory, which no farm meets.
+    #[tactic(auto, using(crate::proofs::LeftLemmas::leaves_same))]
     pub fn run(
         &mut self,
-        alloc: Global,
         server: &SiteServer,
         job: JobId,
         run: &RunJobHttpRequest,
@@ -537,30 +689,29 @@ impl<F: Folder + Drop, B: BuilderIncoming + Drop> Station<F, B> {
               server = server.now.addr;
               kind = kinds.Ran job (ran_of done) (built_of done);
             })) (now_of server.now self.old)) }
-        ensures own { StaysOwn (outside_of self.old) (outside_of self.new) }
+        ensures leaves { Leaves (outside_of self.old) (outside_of self.new) }
+        ensures called { IsCalled self.old.hand self.new.hand }
         ensures still_well { OnOk result (IsWell server.now self.new) }
         ensures err { IfErr result (λ e. e ≡ fault.Memory) }
     {
         let held = match &mut self.state {
             None => return Err(FarmFault::Memory),
-            Some(state) => match state.begin_run(job, Ok(accepted)) {
+            Some(state) => match take_out(state, job, accepted) {
                 Ok(held) => held,
                 Err(_) => return Err(FarmFault::Memory),
             },
         };
         let due = held.is_due();
         let done = build(
-            alloc,
             server,
             self.builds,
             &mut self.builder,
+            &mut self.own,
             held,
             run,
             inputs,
         )?;
-        if due {
-            self.builds = self.builds.saturating_add(1);
-        }
+        self.builds = asked_for(self.builds, due);
         if !broke_in(done.ran()) {
             return Ok(done);
         }
@@ -575,6 +726,7 @@ impl<F: Folder + Drop, B: BuilderIncoming + Drop> Station<F, B> {
     /// Starts again with that key and nonce: its next life, which holds nothing. It lists the archives that
     /// are there; none where the opening fails by its folder. Refused for want of memory alone, as which a
     /// fault of a folder of the farm's own is told.
+    #[tactic(auto, using(crate::proofs::LeftLemmas::leaves_same, crate::proofs::LeftLemmas::clears_same))]
     pub fn restart(
         &mut self,
         alloc: Global,
@@ -587,7 +739,10 @@ impl<F: Folder + Drop, B: BuilderIncoming + Drop> Station<F, B> {
             (now_of server.now self.old) found) }
         ensures now { IfOk result (λ found. now_of server.now self.new
             ≡ reopened (now_of server.now self.old) key.now nonce found) }
-        ensures own { StaysOwn (outside_of self.old) (outside_of self.new) }
+        ensures leaves { Leaves (outside_of self.old) (outside_of self.new) }
+        ensures clears { OnErr result (OnlyClears self.old.state.folder self.new.state.folder) }
+        ensures builder { OnErr result (self.new.builder ≡ self.old.builder) }
+        ensures hand { self.new.hand ≡ self.old.hand }
         ensures still_well { OnOk result (IsWell server.now self.new) }
         ensures err { IfErr result (λ e. e ≡ fault.Memory) }
     {
@@ -622,5 +777,29 @@ impl<F: Folder + Drop, B: BuilderIncoming + Drop> Station<F, B> {
                 Ok(None)
             }
         }
+    }
+
+    /// Starts again as it was set up, in its first life, with a builder that was asked for nothing. It lists
+    /// the archives that are there; none where the opening fails by its folder. Refused as a restart is.
+    pub fn begin_again(
+        &mut self,
+        alloc: Global,
+        server: &SiteServer,
+    ) -> Result<Option<Items<(Toolchain, u64)>>, FarmFault>
+        requires well { IsWell server.now self.old }
+        ensures opens { IfOk result (λ found. Opens (weather_of (outside_of self.old) (outside_of self.new))
+            (now_of server.now self.old) found) }
+        ensures now { IfOk result (λ found. now_of server.now self.new
+            ≡ begun_again (now_of server.now self.old) found) }
+        ensures leaves { Leaves (outside_of self.old) (outside_of self.new) }
+        ensures hand { self.new.hand ≡ self.old.hand }
+        ensures well { IfOk result
+            (λ found. IsWell (with_left self.old.builds found server.now) self.new) }
+        ensures err { IfErr result (λ e. e ≡ fault.Memory) }
+    {
+        let found = self.restart(alloc, server, server.key.get(), server.nonce)?;
+        self.life = 0;
+        self.builds = 0;
+        Ok(found)
     }
 }

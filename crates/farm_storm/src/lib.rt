@@ -8,6 +8,7 @@
 //! The layer above is the command, which uses `storm_text` and `IsStormText`.
 #![tactic(auto)]
 
+mod clients;
 mod deed;
 mod events;
 pub mod laws;

@@ -5,16 +5,15 @@ ghost use Rattle.http_routes.specs.RunHead.{run_body};
 ghost use Rattle.dist_types.specs.Addr.{addr_text};
 ghost use Rattle.http_routes.specs.Requests.{post_with, alloc_with, submit_with, run_with, status_with};
 ghost use Rattle.farm_storm.specs.Storm as spec;
-ghost use Rattle.farm_storm.specs.Storm.{server_key, token_of, storm_run};
+ghost use Rattle.farm_storm.specs.Storm.{token_of, storm_run};
 
+use crate::clients::{Clients, RoundRequest};
 use crate::deed::NUM_ROUND_JOBS;
-use crate::setup::{CLIENT_TOKEN, SERVER_KEY, scheduler_addr, server_addr};
-use dist_token::job_token::JWTJobAuthorizer;
+use crate::setup::{CLIENT_TOKEN, scheduler_addr, server_addr};
 use dist_types::addr::Addr;
 use dist_types::command::CompileCommand;
 use dist_types::fault::Memory;
 use dist_types::ids::JobId;
-use dist_types::roles::JobAuthorizer;
 use dist_types::text::{Bytes, Items, Text};
 use dist_types::toolchain::Toolchain;
 use dist_types::try_clone::push;
@@ -59,22 +58,6 @@ fn written<M: Message>(alloc: Global, message: &M) -> Result<Vec<u8>, Memory>
     }
 }
 
-/// What makes the tokens of jobs, under the key of every build server.
-pub fn storm_authorizer(alloc: Global) -> Result<JWTJobAuthorizer, Memory>
-    ensures { IfOk result (λ authorizer. authorizer ≡ server_key) }
-{
-    let key = Vec::from_slice(alloc, SERVER_KEY)?;
-    Ok(JWTJobAuthorizer::new(key))
-}
-
-/// The token of a job.
-fn token_of(authorizer: &JWTJobAuthorizer, job: u64) -> Result<String, Memory>
-    requires { authorizer.now ≡ server_key }
-    ensures { IfOk result (λ token. string_bytes token ≡ token_of job) }
-{
-    authorizer.generate_token(JobId(job))
-}
-
 /// A request for a job to the scheduler at that address, under a client's token.
 #[tactic(auto, unfolding(http_routes::specs::Requests::alloc_with))]
 fn alloc_at(alloc: Global, scheduler: Addr, token: &str, tc: &Toolchain) -> Result<Bytes, Memory>
@@ -88,9 +71,9 @@ fn alloc_at(alloc: Global, scheduler: Addr, token: &str, tc: &Toolchain) -> Resu
     Ok(bytes)
 }
 
-/// The request for a job of a round.
+/// The request for a job of a round, as it is written.
 #[tactic(auto, unfolding(crate::specs::Storm::alloc_request))]
-pub fn alloc_request(alloc: Global, round: u64) -> Result<Bytes, Memory>
+fn alloc_written(alloc: Global, round: u64) -> Result<Bytes, Memory>
     ensures { IfOk result (λ bytes. bytes ≡ spec.alloc_request round) }
 {
     let archive = round.to_be_bytes();
@@ -98,6 +81,20 @@ pub fn alloc_request(alloc: Global, round: u64) -> Result<Bytes, Memory>
     let scheduler = scheduler_addr();
     let bytes = alloc_at(alloc, scheduler, CLIENT_TOKEN, &tc)?;
     Ok(bytes)
+}
+
+/// The request for a job of a round, which is kept.
+pub fn alloc_request(alloc: Global, clients: &mut Clients, round: u64) -> Result<Bytes, Memory>
+    ensures { IfOk result (λ bytes. bytes ≡ spec.alloc_request round) }
+{
+    if let Some(request) = clients.kept_request(round) {
+        let copy = request.bytes().copy(alloc)?;
+        return Ok(copy);
+    }
+    let bytes = alloc_written(alloc, round)?;
+    let copy = bytes.copy(alloc)?;
+    clients.keep_request(RoundRequest::new(round, bytes));
+    Ok(copy)
 }
 
 /// The request that brings an archive to the server at that address, under the job's token.
@@ -119,20 +116,16 @@ fn submit_at(
     Ok(bytes)
 }
 
-/// The request that brings a job's archive to its server.
+/// The request that brings a job's archive to its server. The job's token is kept.
 #[tactic(auto, unfolding(crate::specs::Storm::submit_request))]
-pub fn submit_request(
-    alloc: Global,
-    authorizer: &JWTJobAuthorizer,
-    job: u64,
-) -> Result<Bytes, Memory>
-    requires { authorizer.now ≡ server_key }
+pub fn submit_request(alloc: Global, clients: &mut Clients, job: u64) -> Result<Bytes, Memory>
     ensures { IfOk result (λ bytes. bytes ≡ spec.submit_request job) }
 {
-    let token = token_of(authorizer, job)?;
+    let token = clients.token(job)?;
     let archive = (job / NUM_ROUND_JOBS).to_be_bytes();
     let server = server_addr(job);
-    let bytes = submit_at(alloc, server, token.as_str(), JobId(job), &archive)?;
+    let bytes = submit_at(alloc, server, token.text(), JobId(job), &archive)?;
+    clients.keep_token(token)?;
     Ok(bytes)
 }
 
@@ -188,17 +181,29 @@ fn run_at(
     Ok(bytes)
 }
 
-/// The request to run a job, which goes to its server.
+/// The request to run a job under its token, which goes to its server.
 #[tactic(auto, unfolding(crate::specs::Storm::run_request))]
-pub fn run_request(alloc: Global, authorizer: &JWTJobAuthorizer, job: u64) -> Result<Bytes, Memory>
-    requires { authorizer.now ≡ server_key }
+fn run_under(alloc: Global, token: &str, job: u64) -> Result<Bytes, Memory>
+    requires { token.now ≡ token_of job }
     ensures { IfOk result (λ bytes. bytes ≡ spec.run_request job) }
 {
-    let token = token_of(authorizer, job)?;
     let inputs = job.to_be_bytes();
     let server = server_addr(job);
-    let bytes = run_at(alloc, server, token.as_str(), JobId(job), &inputs)?;
+    let bytes = run_at(alloc, server, token, JobId(job), &inputs)?;
     Ok(bytes)
+}
+
+/// The request to run a job, which goes to its server.
+pub fn run_request(alloc: Global, clients: &Clients, job: u64) -> Result<Bytes, Memory>
+    ensures { IfOk result (λ bytes. bytes ≡ spec.run_request job) }
+{
+    match clients.kept_token(job) {
+        Some(token) => run_under(alloc, token.text(), job),
+        None => {
+            let token = clients.token(job)?;
+            run_under(alloc, token.text(), job)
+        }
+    }
 }
 
 /// A status request to the scheduler at that address.

@@ -1,16 +1,12 @@
 //! The run of the storm.
 ghost use Rattle.std.specs.Prelude.{◌≡◌, [], IfOk, IfErr, OnErr, string_bytes};
-ghost use Rattle.farm_run.specs.Farm.{StepsTo};
 ghost use Rattle.line_program.specs.declared.fault.FarmFault.TheVariants as fault;
-ghost use Rattle.farm_storm.specs.Places.{deed_at};
-ghost use Rattle.farm_storm.specs.Storm.{event_of, server_key};
 ghost use Rattle.farm_storm.specs.Summary.{IsStormText, IsStormed};
 
+use crate::clients::Clients;
 use crate::events::event_at;
-use crate::requests::storm_authorizer;
 use crate::setup::storm_setup;
 use crate::summary::summary;
-use dist_token::job_token::JWTJobAuthorizer;
 use farm_run::begin;
 use farm_run::builder::FarmBuilder;
 use farm_run::run::Farm;
@@ -30,40 +26,26 @@ fn begun(alloc: Global) -> Result<Farm<MemFolder, FarmBuilder>, FarmFault>
     }
 }
 
-/// The farm after the event of that number.
-fn next(
-    alloc: Global,
-    authorizer: &JWTJobAuthorizer,
-    farm: Farm<MemFolder, FarmBuilder>,
-    number: u64,
-) -> Result<Farm<MemFolder, FarmBuilder>, FarmFault>
-    requires { authorizer.now ≡ server_key }
-    ensures ok { IfOk result (StepsTo farm (event_of number (deed_at number))) }
-    ensures err { IfErr result (λ e. e ≡ fault.Memory) }
-{
-    let event = match event_at(alloc, authorizer, number) {
-        Ok(event) => event,
-        Err(_) => return Err(FarmFault::Memory),
-    };
-    match farm.step(&event) {
-        Ok(farm) => Ok(farm),
-        Err(_) => Err(FarmFault::Memory),
-    }
-}
-
 /// The farm after so many events.
 #[tactic(auto, using(crate::proofs::StormLemmas::begun_run, crate::proofs::StormLemmas::more_run))]
 fn run_storm(alloc: Global, count: u64) -> Result<Farm<MemFolder, FarmBuilder>, FarmFault>
     ensures ok { IfOk result (IsStormed count) }
     ensures err { IfErr result (λ e. e ≡ fault.Memory) }
 {
-    let authorizer = match storm_authorizer(alloc) {
-        Ok(authorizer) => authorizer,
+    let mut clients = match Clients::new(alloc) {
+        Ok(clients) => clients,
         Err(_) => return Err(FarmFault::Memory),
     };
     let mut farm = begun(alloc)?;
     for number in 0..count {
-        farm = next(alloc, &authorizer, farm, number)?;
+        let event = match event_at(alloc, &mut clients, number) {
+            Ok(event) => event,
+            Err(_) => return Err(FarmFault::Memory),
+        };
+        farm = match farm.step(&event) {
+            Ok(farm) => farm,
+            Err(_) => return Err(FarmFault::Memory),
+        };
     }
     Ok(farm)
 }

@@ -3,8 +3,8 @@ use Rattle.std.proofs.Common.{◌≡◌, Option, Some, None, Result, Ok, Err, re
 use Rattle.std.specs.Option.{option_map}
 use Rattle.folders.specs.Files.{Files}
 use Rattle.folders.specs.Held.{Held, Became, Changes}
-use Rattle.folders.specs.declared.fault.FolderFault.{FolderFault}
-use Rattle.folders.specs.declared.fault.FolderFault.TheVariants.{Missing, Failed, Memory}
+use Rattle.dist_types.specs.declared.folder_fault.FolderFault.{FolderFault}
+use Rattle.dist_types.specs.declared.folder_fault.FolderFault.TheVariants.{Missing, Failed, Memory}
 
 pub became_map : (P E : Files → Files → Type 0) (old new : Option Files) → ((f g : Files) → P f g → E f g)
     → Became P old new → Became E old new

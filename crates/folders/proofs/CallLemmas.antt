@@ -4,8 +4,8 @@ use Rattle.std.proofs.Common.{Result, Ok, Err, IfOk, is_some, refl, sym, ap, sub
 use Rattle.std.specs.Option.{option_map}
 use Rattle.folders.specs.Files.{Files, file_at, without, touched, DoneOrNot, Same}
 use Rattle.folders.specs.Held.{Held, Holds, Lacks, Became, Changes}
-use Rattle.folders.specs.declared.fault.FolderFault.{FolderFault}
-use Rattle.folders.specs.declared.fault.FolderFault.TheVariants.{Missing, Failed, Memory}
+use Rattle.dist_types.specs.declared.folder_fault.FolderFault.{FolderFault}
+use Rattle.dist_types.specs.declared.folder_fault.FolderFault.TheVariants.{Missing, Failed, Memory}
 use Rattle.folders.proofs.Became.{became_of, became_map, became_then, became_from, untold}
 use Rattle.folders.proofs.Lookups.{without_other, without_same, done_or_not, touched_each}
 use Rattle.std.specs.Str.{bytes_eq}

@@ -9,7 +9,7 @@ use Rattle.folders.proofs.Became.{became_map, became_same, became_then}
 use Rattle.folders.proofs.Lookups.{without_other, without_same}
 use Rattle.folders.specs.Files.{Files, file_at, without}
 use Rattle.folders.specs.Held.{Became, BecameBy}
-use Rattle.folders.specs.declared.fault.FolderFault.{FolderFault}
+use Rattle.dist_types.specs.declared.folder_fault.FolderFault.{FolderFault}
 use Rattle.folders.specs.Changed.{OnlyRemoved, ButAt, ButUnder, SameAt}
 
 pub made_then : (f g : Files → Files) (one two three : Option Files) → BecameBy f one two

@@ -7,8 +7,8 @@ use Rattle.std.specs.Option.{option_map}
 use Rattle.folders.specs.Files.{Files, file_at, put, put_found, appended, PartWritten, PartAppended}
 use Rattle.dist_types.specs.Cause.{counted}
 use Rattle.folders.specs.Held.{Lacks, Never, Changes}
-use Rattle.folders.specs.declared.fault.FolderFault.{FolderFault}
-use Rattle.folders.specs.declared.fault.FolderFault.TheVariants.{Failed}
+use Rattle.dist_types.specs.declared.folder_fault.FolderFault.{FolderFault}
+use Rattle.dist_types.specs.declared.folder_fault.FolderFault.TheVariants.{Failed}
 
 pub written : (path bytes : List ℕ) (n : ℕ) (old new : Files) (result : Result (Unit {0}) FolderFault)
     (breaks : Bool) (before now : ℕ)

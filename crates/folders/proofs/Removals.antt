@@ -3,7 +3,7 @@ use Rattle.std.proofs.Common.{◌≡◌, ◌++◌, List, ℕ, Option, Some, None
 use Rattle.std.proofs.Common.{IfErr, inl, inr}
 use Rattle.folders.specs.Files.{Files, without, DoneOrNot}
 use Rattle.folders.specs.Held.{Held, Lacks, Became, Changes}
-use Rattle.folders.specs.declared.fault.FolderFault.{FolderFault}
+use Rattle.dist_types.specs.declared.folder_fault.FolderFault.{FolderFault}
 use Rattle.folders.specs.Changed.{OnlyRemoved, ButUnder, RemovedAt, RemovedUnder, SameAt}
 use Rattle.folders.proofs.Became.{became_map, became_same, became_then, became_of}
 use Rattle.folders.proofs.Exactly.{without_was}

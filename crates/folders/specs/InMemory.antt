@@ -4,8 +4,8 @@ use Rattle.std.specs.Option.{option_map}
 use Rattle.folders.specs.Files.{Files, file_at}
 use Rattle.folders.specs.Held.{Held}
 use Rattle.folders.specs.Numbers.{fails_before, fails_after, piece_fails, piece_breaks}
-use Rattle.folders.specs.declared.fault.FolderFault.{FolderFault}
-use Rattle.folders.specs.declared.fault.FolderFault.TheVariants.{Missing, Failed, Memory}
+use Rattle.dist_types.specs.declared.folder_fault.FolderFault.{FolderFault}
+use Rattle.dist_types.specs.declared.folder_fault.FolderFault.TheVariants.{Missing, Failed, Memory}
 use Rattle.folders.specs.declared.calls.Calls.{Calls}
 use Rattle.folders.specs.declared.mem_folder.MemFolder.{MemFolder}
 use Rattle.folders.specs.declared.reliable_folder.ReliableFolder.{ReliableFolder}

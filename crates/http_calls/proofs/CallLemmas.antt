@@ -27,8 +27,9 @@ use Rattle.http_routes.specs.ServerRoute.{AsksSubmit, AsksRun}
 use Rattle.http_routes.specs.Requests.{submit_with, run_with}
 use Rattle.http_routes.proofs.ToldLemmas.{addr_visible, allocations_read_back, statuses_read_back}
 use Rattle.http_routes.proofs.ToldLemmas.{heartbeats_read_back, states_read_back, submissions_read_back}
-use Rattle.http_routes.proofs.ToldLemmas.{runs_read_back}
+use Rattle.http_routes.proofs.ToldLemmas.{runs_read_back, allocations_read_as, statuses_read_as}
 use Rattle.http_calls.specs.Calls.{alloc_request, status_request, state_request, heartbeat_request}
+use Rattle.http_calls.specs.Calls.{ReadsAlloc, ReadsStatus}
 use Rattle.http_routes.specs.Builder.{host_of}
 use Rattle.http_calls.specs.Urls.{IsHttp, IsAbsolutePath}
 use Rattle.http_calls.proofs.JoinLemmas.{is_plain_byte, IsPlain, plain_segments}
@@ -153,6 +154,19 @@ module _ (base : Parts) (valid : IsValid base) (http : IsHttp base) where
         carried = carried;
         limits = limits;
       } spelled admitted
+
+  pub alloc_reads : (token tc : List ℕ) → SpellsToolchain tc (bytes_text tc)
+      → ReadsAlloc base token tc (request_text (alloc_request base token tc))
+  alloc_reads token tc spelled carried limits =
+      allocations_read_as (host_of base) token tc record {
+        visible =
+            (clean base valid http).host;
+        carried = carried;
+        limits = limits;
+      } spelled
+
+  pub status_reads : ReadsStatus base (request_text (status_request base))
+  status_reads limits = statuses_read_as (host_of base) (clean base valid http).host limits
 
   pub status_asks : IsWithinLimits (status_request base)
       → (rules : Rules) (lets : List ℕ → Admission) (serves : List ℕ → Option Addr) (peer : Addr)

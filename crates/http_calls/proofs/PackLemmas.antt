@@ -15,11 +15,12 @@ use Rattle.http_routes.specs.RunHead.{run_body}
 use Rattle.http_routes.specs.Requests.{post_with, run_with}
 use Rattle.path_pkg.specs.Append.{Appends}
 use Rattle.http_calls.specs.Asking.{Asks, dialed_host}
-use Rattle.http_calls.specs.Calls.{run_request}
+use Rattle.http_calls.specs.Calls.{run_request, ReadsRun}
 use Rattle.http_calls.specs.Client.{ClientParts, IsAsked, AfterPacking, PacksRequest, with_dialer}
 use Rattle.http_calls.specs.Servers.{port_at}
-use Rattle.http_calls.specs.declared.error.CallError.{CallError}
-use Rattle.http_calls.specs.declared.error.CallError.TheVariants.{LinkFault}
+use Rattle.http_calls.proofs.RowLemmas.{row_is}
+use Rattle.http_head.specs.declared.error.HttpError.{HttpError}
+use Rattle.http_head.specs.declared.error.HttpError.TheVariants.{LinkFault}
 
 -- bytes behind the body of a run without inputs are its inputs
 body_more : (run : RunJobHttpRequest) (more : List ℕ) → run_body run [] ++ more ≡ run_body run more
@@ -46,18 +47,21 @@ posted_run job run inputs body token bytes is token_is body_is =
     (addr_text job.server_id) (token_is i) (body_is i)))
 
 pub ran_after : (job : JobAlloc) (run : RunJobHttpRequest) (inputs request : List ℕ)
-    (answer sent : Result RunJobResult CallError) (old new : ClientParts)
-    → request ≡ request_text (run_request job run inputs) → answer ≡ sent
+    (answer sent : Result RunJobResult HttpError) (old new : ClientParts)
+    → request ≡ request_text (run_request job run inputs) → ReadsRun job run inputs request → answer ≡ sent
     → IsAsked wire.ran_at (dialed_host job.server_id) (port_at job.server_id) request sent old new
     → AfterPacking job run (Ok inputs) answer old new
-ran_after job run inputs request answer sent old new is same h =
-    subst (λ a. IsAsked wire.ran_at (dialed_host job.server_id) (port_at job.server_id)
-    (request_text (run_request job run inputs)) a old new) (sym same)
-    (subst (λ q. IsAsked wire.ran_at (dialed_host job.server_id) (port_at job.server_id) q sent old new) is h)
+ran_after job run inputs request answer sent old new is reads same h = record {
+  asked = subst (λ a. IsAsked wire.ran_at (dialed_host job.server_id) (port_at job.server_id)
+      (request_text (run_request job run inputs)) a old new) (sym same)
+      (subst (λ q. IsAsked wire.ran_at (dialed_host job.server_id) (port_at job.server_id) q sent old new) is h);
+  row = row_is wire.ran_at (dialed_host job.server_id) (port_at job.server_id) request request sent
+      (ReadsRun job run inputs) old.asked new.asked refl h.asks reads;
+}
 
 -- the same run by another name
 pub packed_same : (Uncalled Called : Type 0) (told : Option (List ℕ)) (before after : ℕ) (job : JobAlloc)
-    (run other : RunJobHttpRequest) (answer : Result (List ℕ) CallError)
+    (run other : RunJobHttpRequest) (answer : Result (List ℕ) HttpError)
     → run ≡ other → PacksRequest Uncalled Called told before after job run answer
     → PacksRequest Uncalled Called told before after job other answer
 packed_same Uncalled Called told before after job run other answer e h =
@@ -65,7 +69,7 @@ packed_same Uncalled Called told before after job run other answer e h =
 
 -- what was asked is said by another text of the request
 pub asked_as : {M : Type 0} (at : List ℕ → Option (M × List ℕ)) (host : List ℕ) (port : ℕ)
-    (sent made told : List ℕ) (answer : Result M CallError) (old new : ClientParts)
+    (sent made told : List ℕ) (answer : Result M HttpError) (old new : ClientParts)
     → sent ≡ made → made ≡ told → Asks at host port sent answer old.asked new.asked
     → (answer ≡ Err LinkFault → Rose old.faults new.faults)
     → (answer ≢ Err LinkFault → new.faults ≡ old.faults)

@@ -6,7 +6,6 @@ ghost use Rattle.url.specs.Parts.{host_or_empty};
 ghost use Rattle.http_calls.specs.Asking.{Asks, dialed_host};
 ghost use Rattle.http_calls.specs.Servers.{port_at};
 
-use crate::error::CallError;
 use crate::reply::resumed;
 use crate::servers::port_of as port_at;
 use dist_types::addr::Addr;
@@ -14,6 +13,7 @@ use dist_types::dialer::{AskFault, Dialer};
 use dist_types::fault::Failed;
 use dist_types::ids::ServerId;
 use dist_wire::message::Message;
+use http_head::error::HttpError;
 use http_routes::builder::{host_text, port_of};
 use std::alloc::Global;
 use std::fmt;
@@ -52,17 +52,17 @@ fn ask<M: Message, D: Dialer>(
     host: &str,
     port: u16,
     request: &[u8],
-) -> Result<M, CallError>
+) -> Result<M, HttpError>
     ensures asks { Asks M.at host.now port request.now result (D.asked dialer.old) (D.asked dialer.new) }
-    ensures cause { result ≡ Err CallError.LinkFault → Rose (D.faults dialer.old) (D.faults dialer.new) }
-    ensures steady { result ≢ Err CallError.LinkFault → D.faults dialer.new ≡ D.faults dialer.old }
+    ensures cause { result ≡ Err HttpError.LinkFault → Rose (D.faults dialer.old) (D.faults dialer.new) }
+    ensures steady { result ≢ Err HttpError.LinkFault → D.faults dialer.new ≡ D.faults dialer.old }
     ensures later { D.faults dialer.old ≤ D.faults dialer.new }
 {
     match dialer.ask(host, port, request) {
         Ok(reply) => resumed(alloc, Ok(&reply)),
         Err(fault) => match fault {
-            AskFault::Failed => Err(CallError::LinkFault),
-            AskFault::Memory => Err(CallError::Memory),
+            AskFault::Failed => Err(HttpError::LinkFault),
+            AskFault::Memory => Err(HttpError::Memory),
         },
     }
 }
@@ -73,11 +73,11 @@ pub(crate) fn ask_url<M: Message, D: Dialer>(
     dialer: &mut D,
     url: &Url,
     request: &[u8],
-) -> Result<M, CallError>
+) -> Result<M, HttpError>
     ensures asks { Asks M.at (host_text (host_or_empty url.now)) (unwrap_or url.now.port 80) request.now
         result (D.asked dialer.old) (D.asked dialer.new) }
-    ensures cause { result ≡ Err CallError.LinkFault → Rose (D.faults dialer.old) (D.faults dialer.new) }
-    ensures steady { result ≢ Err CallError.LinkFault → D.faults dialer.new ≡ D.faults dialer.old }
+    ensures cause { result ≡ Err HttpError.LinkFault → Rose (D.faults dialer.old) (D.faults dialer.new) }
+    ensures steady { result ≢ Err HttpError.LinkFault → D.faults dialer.new ≡ D.faults dialer.old }
     ensures later { D.faults dialer.old ≤ D.faults dialer.new }
 {
     let answer = ask(alloc, dialer, host_text(url), port_of(url), request);
@@ -90,17 +90,17 @@ pub(crate) fn ask_server<M: Message, D: Dialer>(
     dialer: &mut D,
     server: ServerId,
     request: &[u8],
-) -> Result<M, CallError>
+) -> Result<M, HttpError>
     ensures asks { Asks M.at (dialed_host server) (port_at server) request.now result (D.asked dialer.old)
         (D.asked dialer.new) }
-    ensures cause { result ≡ Err CallError.LinkFault → Rose (D.faults dialer.old) (D.faults dialer.new) }
-    ensures steady { result ≢ Err CallError.LinkFault → D.faults dialer.new ≡ D.faults dialer.old }
+    ensures cause { result ≡ Err HttpError.LinkFault → Rose (D.faults dialer.old) (D.faults dialer.new) }
+    ensures steady { result ≢ Err HttpError.LinkFault → D.faults dialer.new ≡ D.faults dialer.old }
     ensures later { D.faults dialer.old ≤ D.faults dialer.new }
 {
     let addr = server.addr();
     let host = match format!(in alloc; "{}", DialedHost(addr)) {
         Ok(host) => host,
-        Err(_) => return Err(CallError::Memory),
+        Err(_) => return Err(HttpError::Memory),
     };
     let answer = ask(alloc, dialer, host.as_str(), port_at(addr), request);
     answer

@@ -7,13 +7,13 @@ ghost use Rattle.path_pkg.specs.Called.{CalledOnce};
 ghost use Rattle.http_calls.specs.Asking.{dialed_host};
 ghost use Rattle.http_calls.specs.Servers.{port_at};
 ghost use Rattle.http_calls.specs.Client.{IsAsked, Allocates, AsksStatus, Submits, AfterGet, Runs, run_of};
-ghost use Rattle.http_calls.specs.Client.{first_of};
+ghost use Rattle.http_calls.specs.Calls.{ReadsAlloc, ReadsStatus};
+ghost use Rattle.http_calls.specs.Client.{first_of, RowIs};
 ghost use Rattle.http_calls.specs.Client.{local_error, with_toolchains, PutsHere, TellsArchive, IsName};
 
 use crate::alloc_call::AllocCall;
 use crate::ask::{ask_server, ask_url};
 use crate::calls;
-use crate::error::CallError;
 use crate::run_call::RunCall;
 use crate::status_call::StatusCall;
 use crate::submit_call::SubmitCall;
@@ -26,6 +26,7 @@ use dist_types::results::{
 };
 use dist_types::text::Text;
 use dist_types::toolchain::Toolchain;
+use http_head::error::HttpError;
 use path_pkg::packagers::{InputsPackager, ToolchainPackager};
 use path_pkg::unix::PathTransformer;
 use std::alloc::Global;
@@ -61,17 +62,17 @@ impl<D: Dialer, F: Folder> Model for Client<D, F> {
 }
 
 /// A refusal of the client's toolchains, as a call tells it.
-fn local_error(refusal: ToolchainError) -> CallError
+fn local_error(refusal: ToolchainError) -> HttpError
     ensures { result ≡ local_error refusal }
 {
     match refusal {
-        ToolchainError::Cache(e) => CallError::Local(ToolchainError::Cache(e)),
-        ToolchainError::Disabled => CallError::Local(ToolchainError::Disabled),
-        ToolchainError::DuplicateConfig => CallError::Local(ToolchainError::DuplicateConfig),
-        ToolchainError::ConflictConfig => CallError::Local(ToolchainError::ConflictConfig),
-        ToolchainError::BadWeakMap => CallError::Local(ToolchainError::BadWeakMap),
-        ToolchainError::PackagerFailed => CallError::Local(ToolchainError::PackagerFailed),
-        ToolchainError::Memory => CallError::Memory,
+        ToolchainError::Cache(e) => HttpError::Local(ToolchainError::Cache(e)),
+        ToolchainError::Disabled => HttpError::Local(ToolchainError::Disabled),
+        ToolchainError::DuplicateConfig => HttpError::Local(ToolchainError::DuplicateConfig),
+        ToolchainError::ConflictConfig => HttpError::Local(ToolchainError::ConflictConfig),
+        ToolchainError::BadWeakMap => HttpError::Local(ToolchainError::BadWeakMap),
+        ToolchainError::PackagerFailed => HttpError::Local(ToolchainError::PackagerFailed),
+        ToolchainError::Memory => HttpError::Memory,
     }
 }
 
@@ -124,8 +125,9 @@ impl<D: Dialer, F: Folder> Client<D, F> {
     }
 
     // Asks the scheduler for a job.
-    fn alloc_job(&mut self, tc: &Toolchain) -> Result<AllocJobResult, CallError>
-        ensures { Allocates tc.now result self.old self.new }
+    fn alloc_job(&mut self, tc: &Toolchain) -> Result<AllocJobResult, HttpError>
+        ensures asks { Allocates tc.now result self.old self.new }
+        ensures reads { RowIs (ReadsAlloc self.old.base self.old.token tc.now) self.old self.new }
     {
         match AllocCall::start(self.alloc, &self.scheduler_url, self.auth_token.get(), tc) {
             Ok(call) => ask_url(
@@ -139,8 +141,9 @@ impl<D: Dialer, F: Folder> Client<D, F> {
     }
 
     // Asks the scheduler for its status.
-    fn get_status(&mut self) -> Result<SchedulerStatusResult, CallError>
-        ensures { AsksStatus result self.old self.new }
+    fn get_status(&mut self) -> Result<SchedulerStatusResult, HttpError>
+        ensures asks { AsksStatus result self.old self.new }
+        ensures reads { RowIs (ReadsStatus self.old.base) self.old self.new }
     {
         match StatusCall::start(self.alloc, &self.scheduler_url) {
             Ok(call) => ask_url(
@@ -163,7 +166,7 @@ impl<D: Dialer, F: Folder> Client<D, F> {
     }
 
     // Brings an archive to a job's server.
-    fn bring(&mut self, job: &JobAlloc, archive: &[u8]) -> Result<SubmitToolchainResult, CallError>
+    fn bring(&mut self, job: &JobAlloc, archive: &[u8]) -> Result<SubmitToolchainResult, HttpError>
         ensures { AfterGet job.now (Ok (Some archive.now)) result self.old self.new }
     {
         match SubmitCall::start(self.alloc, job, archive) {
@@ -173,20 +176,20 @@ impl<D: Dialer, F: Folder> Client<D, F> {
     }
 
     // Brings the archive of a toolchain to a job's server.
-    fn submit(&mut self, job: &JobAlloc, tc: &Toolchain) -> Result<SubmitToolchainResult, CallError>
+    fn submit(&mut self, job: &JobAlloc, tc: &Toolchain) -> Result<SubmitToolchainResult, HttpError>
         ensures { Submits job.now tc.now result self.old self.new }
     {
         match self.get(tc) {
             Ok(found) => match found {
                 Some(archive) => self.bring(job, &archive),
-                None => Err(CallError::NotLocal),
+                None => Err(HttpError::NotLocal),
             },
             Err(refusal) => Err(local_error(refusal)),
         }
     }
 
     // Asks a job's server to run it.
-    fn send(&mut self, job: &JobAlloc, call: &RunCall) -> Result<RunJobResult, CallError>
+    fn send(&mut self, job: &JobAlloc, call: &RunCall) -> Result<RunJobResult, HttpError>
         ensures { IsAsked wire.ran_at (dialed_host job.now.server_id) (port_at job.now.server_id) call.now
             result self.old self.new }
     {
@@ -201,7 +204,7 @@ impl<D: Dialer, F: Folder> Client<D, F> {
         command: CompileCommand,
         outputs: Vec<String>,
         inputs: &mut dyn InputsPackager,
-    ) -> Result<(RunJobResult, PathTransformer), CallError>
+    ) -> Result<(RunJobResult, PathTransformer), HttpError>
         ensures { Runs (inputs.new ≡ inputs.old) (CalledOnce (times inputs.old) (times inputs.new))
             (packs inputs.old) (refusals inputs.old) (refusals inputs.new) job.now
             (run_of command outputs) (first_of result) self.old self.new }
@@ -246,9 +249,9 @@ impl<D: Dialer, F: Folder> Client<D, F> {
 
 // An answer with what mapped the paths beside it.
 fn beside(
-    answer: Result<RunJobResult, CallError>,
+    answer: Result<RunJobResult, HttpError>,
     transformer: PathTransformer,
-) -> Result<(RunJobResult, PathTransformer), CallError>
+) -> Result<(RunJobResult, PathTransformer), HttpError>
     ensures { first_of result ≡ answer }
 {
     match answer {
@@ -275,29 +278,33 @@ fn name_of(
 impl<D: Dialer, F: Folder> calls::Client for Client<D, F> {
     ghost seen = { λ c. c };
 
-    fn do_alloc_job(&mut self, tc: &Toolchain) -> Result<AllocJobResult, CallError> {
+    #[tactic(auto, using(crate::proofs::RefusalLemmas::scheduler_error))]
+    fn do_alloc_job(&mut self, tc: &Toolchain) -> Result<AllocJobResult, HttpError> {
         self.alloc_job(tc)
     }
 
-    fn do_get_status(&mut self) -> Result<SchedulerStatusResult, CallError> {
+    #[tactic(auto, using(crate::proofs::RefusalLemmas::scheduler_error))]
+    fn do_get_status(&mut self) -> Result<SchedulerStatusResult, HttpError> {
         self.get_status()
     }
 
+    #[tactic(auto, using(crate::proofs::RefusalLemmas::submit_error))]
     fn do_submit_toolchain(
         &mut self,
         job: &JobAlloc,
         tc: &Toolchain,
-    ) -> Result<SubmitToolchainResult, CallError> {
+    ) -> Result<SubmitToolchainResult, HttpError> {
         self.submit(job, tc)
     }
 
+    #[tactic(auto, using(crate::proofs::RefusalLemmas::run_error))]
     fn do_run_job(
         &mut self,
         job: &JobAlloc,
         command: CompileCommand,
         outputs: Vec<String>,
         inputs: &mut dyn InputsPackager,
-    ) -> Result<(RunJobResult, PathTransformer), CallError> {
+    ) -> Result<(RunJobResult, PathTransformer), HttpError> {
         self.run(job, command, outputs, inputs)
     }
 

@@ -16,7 +16,6 @@ pub mod alloc_call;
 mod ask;
 pub mod builder;
 pub mod calls;
-pub mod error;
 pub mod http;
 pub mod laws;
 mod reply;
@@ -28,3 +27,5 @@ mod servers;
 pub mod status_call;
 pub mod submit_call;
 pub mod urls;
+
+pub use http_head::error;

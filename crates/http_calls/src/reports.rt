@@ -10,7 +10,6 @@ ghost use Rattle.http_routes.specs.Asked.{IsAskedUnder};
 ghost use Rattle.http_calls.specs.Calls.{RefusesBase, state_request, heartbeat_request};
 ghost use Rattle.http_calls.specs.Urls.{IsHttp};
 
-use crate::error::CallError;
 use crate::scheduler_calls::{heartbeat_text, state_text};
 use crate::urls::tested;
 use dist_types::fault::Memory;
@@ -18,6 +17,7 @@ use dist_types::ids::JobId;
 use dist_types::results::JobState;
 use dist_types::text::Bytes;
 use dist_wire::heartbeat::HeartbeatServerHttpRequest;
+use http_head::error::HttpError;
 use std::alloc::Global;
 use url::Url;
 
@@ -56,7 +56,7 @@ pub fn state_report(
     token: &str,
     job: JobId,
     state: JobState,
-) -> Result<Bytes, CallError>
+) -> Result<Bytes, HttpError>
     ensures text { IfOk result (λ bytes. bytes ≡ request_text (state_request base.now token.now job state)) }
     ensures asks { IfOk result (λ bytes. IsToken token.now
         → IsWithinLimits (state_request base.now token.now job state)
@@ -105,7 +105,7 @@ pub fn heartbeat(
     base: &Url,
     token: &str,
     beat: &HeartbeatServerHttpRequest,
-) -> Result<Bytes, CallError>
+) -> Result<Bytes, HttpError>
     ensures text { IfOk result
         (λ bytes. bytes ≡ request_text (heartbeat_request base.now token.now beat.now)) }
     ensures asks { IfOk result (λ bytes. IsToken token.now

@@ -10,9 +10,9 @@ ghost use Rattle.http_routes.specs.ServerRoute.{AsksRun};
 ghost use Rattle.path_pkg.specs.Called.{CalledOnce};
 ghost use Rattle.http_calls.specs.Calls as written;
 ghost use Rattle.http_calls.specs.Client.{PacksRequest, run_of, first_of};
+ghost use Rattle.http_calls.specs.Refusals.{IsReplyError};
 ghost use Rattle.http_calls.specs.Reply.{Resumes};
 
-use crate::error::CallError;
 use crate::reply::resumed;
 use crate::server_calls::{packed_request, run_request};
 use dist_types::command::CompileCommand;
@@ -20,6 +20,7 @@ use dist_types::fault::Failed;
 use dist_types::results::{JobAlloc, RunJobResult};
 use dist_types::text::{Bytes, Items, Text};
 use dist_wire::run::RunJobHttpRequest;
+use http_head::error::HttpError;
 use path_pkg::packagers::InputsPackager;
 use path_pkg::unix::PathTransformer;
 use std::alloc::Global;
@@ -41,9 +42,9 @@ impl Model for RunCall {
 }
 
 /// The names of outputs as a message has them.
-fn names_of(alloc: Global, outputs: Vec<String>) -> Result<Items<Text>, CallError>
+fn names_of(alloc: Global, outputs: Vec<String>) -> Result<Items<Text>, HttpError>
     ensures ok { IfOk result (λ names. names ≡ map string_bytes outputs.items) }
-    ensures err { IfErr result (λ e. e ≡ CallError.Memory) }
+    ensures err { IfErr result (λ e. e ≡ HttpError.Memory) }
 {
     let names = outputs.into_iter().map(Text::new).collect(alloc)?;
     Ok(Items::new(names))
@@ -54,7 +55,7 @@ fn run_of(
     alloc: Global,
     command: CompileCommand,
     outputs: Vec<String>,
-) -> Result<RunJobHttpRequest, CallError>
+) -> Result<RunJobHttpRequest, HttpError>
     ensures { IfOk result (λ run. run ≡ run_of command outputs) }
 {
     let outputs = names_of(alloc, outputs)?;
@@ -67,7 +68,7 @@ fn packed_run(
     job: &JobAlloc,
     run: &RunJobHttpRequest,
     inputs: &mut dyn InputsPackager,
-) -> Result<(RunCall, PathTransformer), CallError>
+) -> Result<(RunCall, PathTransformer), HttpError>
     ensures { PacksRequest (inputs.new ≡ inputs.old) (CalledOnce (times inputs.old) (times inputs.new))
         (packs inputs.old) (refusals inputs.old) (refusals inputs.new) job.now run.now (first_of result) }
 {
@@ -88,7 +89,7 @@ impl RunCall {
         command: CompileCommand,
         outputs: Vec<String>,
         inputs: &[u8],
-    ) -> Result<RunCall, CallError>
+    ) -> Result<RunCall, HttpError>
         ensures text { let run : RunJobHttpRequest =
             record { command = command; outputs = map string_bytes outputs.items } in
             IfOk result (λ call. call ≡ request_text (written.run_request job.now run inputs.now)) }
@@ -98,7 +99,7 @@ impl RunCall {
             → IsWithinLimits (written.run_request job.now run inputs.now)
             → (verdict : ℕ → List ℕ → Result ⊤ TokenError) → verdict job.now.job_id.0 job.now.auth ≡ Ok tt
             → AsksRun verdict call job.now.job_id run inputs.now) }
-        ensures err { IfErr result (λ e. (e ≡ CallError.Memory) ⊎ ((e ≡ CallError.HeadTooLong)
+        ensures err { IfErr result (λ e. (e ≡ HttpError.Memory) ⊎ ((e ≡ HttpError.HeadTooLong)
             × (2 ^ 32 ≤ length (spelling.run_text
             (record { command = command; outputs = map string_bytes outputs.items }))))) }
         ensures low { OnOk result (length (spelling.run_text
@@ -126,7 +127,7 @@ impl RunCall {
         command: CompileCommand,
         outputs: Vec<String>,
         inputs: &mut dyn InputsPackager,
-    ) -> Result<(RunCall, PathTransformer), CallError>
+    ) -> Result<(RunCall, PathTransformer), HttpError>
         ensures { PacksRequest (inputs.new ≡ inputs.old) (CalledOnce (times inputs.old) (times inputs.new))
             (packs inputs.old) (refusals inputs.old) (refusals inputs.new) job.now
             (run_of command outputs) (first_of result) }
@@ -136,7 +137,7 @@ impl RunCall {
                 let answer = packed_run(alloc, job, &run, inputs);
                 answer
             }
-            Err(_) => Err(CallError::Memory),
+            Err(_) => Err(HttpError::Memory),
         }
     }
 
@@ -149,9 +150,10 @@ impl RunCall {
 
     /// The answer, by the reply that came: LinkFault exactly where none came; else what the reply says,
     /// unless memory ran out.
-    pub fn resume(self, reply: Result<&[u8], Failed>) -> Result<RunJobResult, CallError>
+    pub fn resume(self, reply: Result<&[u8], Failed>) -> Result<RunJobResult, HttpError>
         ensures told { Resumes wire.ran_at reply.entry result }
-        ensures link { (result ≡ Err CallError.LinkFault) ↔ IsErr reply.entry }
+        ensures link { (result ≡ Err HttpError.LinkFault) ↔ IsErr reply.entry }
+        ensures errors { IfErr result IsReplyError }
     {
         resumed(self.alloc, reply)
     }

@@ -12,7 +12,6 @@ ghost use Rattle.http_calls.specs.Calls.{heartbeat_request};
 ghost use Rattle.http_calls.specs.Urls.{IsHttp};
 
 use crate::builder::{RequestBuilder, ReqwestRequestBuilderExt};
-use crate::error::CallError;
 use crate::urls::{heartbeat_url, scheduler_alloc_job, scheduler_status, state_url};
 use dist_types::fault::Memory;
 use dist_types::ids::JobId;
@@ -58,7 +57,7 @@ pub(crate) fn alloc_text(
     base: &Url,
     token: &str,
     tc: &Toolchain,
-) -> Result<Bytes, CallError>
+) -> Result<Bytes, HttpError>
     ensures text { IfOk result (λ bytes. bytes ≡ request_text (alloc_request base.now token.now tc.now)) }
     ensures http { OnOk result (IsHttp base.now) }
     ensures valid { IsValid base.now }
@@ -88,7 +87,7 @@ fn built_get(alloc: Global, url: &Url) -> Result<Bytes, HttpError>
 
 /// The bytes of a request for the status.
 #[tactic(auto, using(crate::proofs::UrlLemmas::target_at), unfolding(http_routes::specs::Requests::status_with))]
-pub(crate) fn status_text(alloc: Global, base: &Url) -> Result<Bytes, CallError>
+pub(crate) fn status_text(alloc: Global, base: &Url) -> Result<Bytes, HttpError>
     ensures text { IfOk result (λ bytes. bytes ≡ request_text (status_request base.now)) }
     ensures http { OnOk result (IsHttp base.now) }
     ensures valid { IsValid base.now }
@@ -97,7 +96,7 @@ pub(crate) fn status_text(alloc: Global, base: &Url) -> Result<Bytes, CallError>
     let url = scheduler_status(base)?;
     match built_get(alloc, &url) {
         Ok(bytes) => Ok(bytes),
-        Err(_) => Err(CallError::Memory),
+        Err(_) => Err(HttpError::Memory),
     }
 }
 

@@ -15,7 +15,6 @@ ghost use Rattle.path_pkg.specs.Called.{CalledOnce};
 ghost use Rattle.http_calls.specs.Client.{PacksBody, PacksRequest, first_of};
 
 use crate::builder::{RequestBuilder, ReqwestRequestBuilderExt};
-use crate::error::CallError;
 use dist_types::addr::Addr;
 use dist_types::ids::{JobId, ServerId};
 use dist_types::results::JobAlloc;
@@ -44,7 +43,7 @@ fn fits(addr: Addr)
 }
 
 /// The bytes of a POST under a token.
-fn built(target: String, host: String, token: &str, body: Bytes) -> Result<Bytes, HttpError>
+fn posted(target: String, host: String, token: &str, body: Bytes) -> Result<Bytes, HttpError>
     ensures text { IfOk result (λ bytes. bytes
         ≡ request_text (post_with (string_bytes target) (string_bytes host) token.now body)) }
     ensures err { IfErr result (λ e. e ≡ HttpError.Memory) }
@@ -56,18 +55,6 @@ fn built(target: String, host: String, token: &str, body: Bytes) -> Result<Bytes
     Ok(Bytes::new(bytes))
 }
 
-/// The same as a part of a call.
-fn posted(target: String, host: String, token: &str, body: Bytes) -> Result<Bytes, CallError>
-    ensures text { IfOk result (λ bytes. bytes
-        ≡ request_text (post_with (string_bytes target) (string_bytes host) token.now body)) }
-    ensures err { IfErr result (λ e. e ≡ CallError.Memory) }
-{
-    match built(target, host, token, body) {
-        Ok(bytes) => Ok(bytes),
-        Err(_) => Err(CallError::Memory),
-    }
-}
-
 /// The bytes of the request that brings a job's archive.
 #[tactic(auto, unfolding(http_routes::specs::Requests::submit_with))]
 fn submit_text(
@@ -76,10 +63,10 @@ fn submit_text(
     token: &str,
     job: JobId,
     archive: &[u8],
-) -> Result<Bytes, CallError>
+) -> Result<Bytes, HttpError>
     ensures text { IfOk result (λ bytes. bytes
         ≡ request_text (submit_with (addr_text server) token.now job archive.now)) }
-    ensures err { IfErr result (λ e. e ≡ CallError.Memory) }
+    ensures err { IfErr result (λ e. e ≡ HttpError.Memory) }
 {
     let target = format!(in alloc; "/api/v1/distserver/submit_toolchain/{job}")?;
     let host = format!(in alloc; "{server}")?;
@@ -97,14 +84,14 @@ pub(crate) fn submit_request(
     token: &str,
     job: JobId,
     archive: &[u8],
-) -> Result<Bytes, CallError>
+) -> Result<Bytes, HttpError>
     ensures text { IfOk result (λ bytes. bytes
         ≡ request_text (submit_with (addr_text server) token.now job archive.now)) }
     ensures asks { IfOk result (λ bytes. IsToken token.now
         → IsWithinLimits (submit_with (addr_text server) token.now job archive.now)
         → (verdict : ℕ → List ℕ → Result ⊤ TokenError) → verdict job.0 token.now ≡ Ok tt
         → AsksSubmit verdict bytes job archive.now) }
-    ensures err { IfErr result (λ e. e ≡ CallError.Memory) }
+    ensures err { IfErr result (λ e. e ≡ HttpError.Memory) }
 {
     fits(server.addr());
     let bytes = submit_text(alloc, server, token, job, archive)?;
@@ -114,20 +101,20 @@ pub(crate) fn submit_request(
 /// The body of a run: HeadTooLong exactly where the head has 2^32 bytes or more; else refused for want of
 /// memory alone.
 #[tactic(auto, unfolding(http_routes::specs::RunHead::run_body))]
-fn run_body(alloc: Global, run: &RunJobHttpRequest, inputs: &[u8]) -> Result<Bytes, CallError>
+fn run_body(alloc: Global, run: &RunJobHttpRequest, inputs: &[u8]) -> Result<Bytes, HttpError>
     ensures body { IfOk result (λ bytes. bytes ≡ run_body run.now inputs.now) }
     ensures low { OnOk result (length (spelling.run_text run.now) < 2 ^ 32) }
     ensures spelled { OnOk result (SpellsRun run.now (spelling.run_text run.now)) }
-    ensures err { IfErr result (λ e. (e ≡ CallError.Memory)
-        ⊎ ((e ≡ CallError.HeadTooLong) × (2 ^ 32 ≤ length (spelling.run_text run.now)))) }
+    ensures err { IfErr result (λ e. (e ≡ HttpError.Memory)
+        ⊎ ((e ≡ HttpError.HeadTooLong) × (2 ^ 32 ≤ length (spelling.run_text run.now)))) }
 {
     let head = match run.write(alloc) {
         Ok(head) => head,
-        Err(WireError::Memory) => return Err(CallError::Memory),
+        Err(WireError::Memory) => return Err(HttpError::Memory),
         Err(WireError::ParseError) => unreachable!(),
     };
     let Ok(len) = u32::try_from(head.len()) else {
-        return Err(CallError::HeadTooLong);
+        return Err(HttpError::HeadTooLong);
     };
     let mut bytes = Vec::from_slice(alloc, &len.to_be_bytes())?;
     bytes.extend_from_slice(&head)?;
@@ -141,7 +128,7 @@ fn packed_body(
     alloc: Global,
     run: &RunJobHttpRequest,
     inputs: &mut dyn InputsPackager,
-) -> Result<(Bytes, PathTransformer), CallError>
+) -> Result<(Bytes, PathTransformer), HttpError>
     ensures { PacksBody (inputs.new ≡ inputs.old) (CalledOnce (times inputs.old) (times inputs.new))
         (packs inputs.old) (refusals inputs.old) (refusals inputs.new) run.now (first_of result) }
 {
@@ -152,8 +139,8 @@ fn packed_body(
     match inputs.write_inputs(&mut body) {
         Ok(transformer) => Ok((Bytes::new(body), transformer)),
         Err(fault) => match fault {
-            PackFault::Refused => Err(CallError::Packager),
-            PackFault::Memory => Err(CallError::Memory),
+            PackFault::Refused => Err(HttpError::Packager),
+            PackFault::Memory => Err(HttpError::Memory),
         },
     }
 }
@@ -165,11 +152,13 @@ fn run_posted(
     token: &str,
     job: JobId,
     body: Bytes,
-) -> Result<Bytes, CallError>
+) -> Result<Bytes, HttpError>
     ensures text { IfOk result (λ bytes. bytes ≡ request_text (post_with
         (codes "/api/v1/distserver/run_job/" ++ decimal job.0) (addr_text server) token.now body)) }
-    ensures err { IfErr result (λ e. e ≡ CallError.Memory) }
+    ensures fits { OnOk result (IsAddr server × (job.0 < 2 ^ 64)) }
+    ensures err { IfErr result (λ e. e ≡ HttpError.Memory) }
 {
+    fits(server.addr());
     let target = format!(in alloc; "/api/v1/distserver/run_job/{job}")?;
     let host = format!(in alloc; "{server}")?;
     let bytes = posted(target, host, token, body)?;
@@ -183,7 +172,7 @@ pub(crate) fn packed_request(
     job: &JobAlloc,
     run: &RunJobHttpRequest,
     inputs: &mut dyn InputsPackager,
-) -> Result<(Bytes, PathTransformer), CallError>
+) -> Result<(Bytes, PathTransformer), HttpError>
     ensures { PacksRequest (inputs.new ≡ inputs.old) (CalledOnce (times inputs.old) (times inputs.new))
         (packs inputs.old) (refusals inputs.old) (refusals inputs.new) job.now run.now (first_of result) }
 {
@@ -191,7 +180,7 @@ pub(crate) fn packed_request(
         Ok((body, transformer)) => {
             match run_posted(alloc, job.server_id, job.auth.get(), job.job_id, body) {
                 Ok(bytes) => Ok((bytes, transformer)),
-                Err(_) => Err(CallError::Memory),
+                Err(_) => Err(HttpError::Memory),
             }
         }
         Err(refusal) => Err(refusal),
@@ -207,13 +196,13 @@ fn run_text(
     job: JobId,
     run: &RunJobHttpRequest,
     inputs: &[u8],
-) -> Result<Bytes, CallError>
+) -> Result<Bytes, HttpError>
     ensures text { IfOk result (λ bytes. bytes
         ≡ request_text (run_with (addr_text server) token.now job run.now inputs.now)) }
     ensures low { OnOk result (length (spelling.run_text run.now) < 2 ^ 32) }
     ensures spelled { OnOk result (SpellsRun run.now (spelling.run_text run.now)) }
-    ensures err { IfErr result (λ e. (e ≡ CallError.Memory)
-        ⊎ ((e ≡ CallError.HeadTooLong) × (2 ^ 32 ≤ length (spelling.run_text run.now)))) }
+    ensures err { IfErr result (λ e. (e ≡ HttpError.Memory)
+        ⊎ ((e ≡ HttpError.HeadTooLong) × (2 ^ 32 ≤ length (spelling.run_text run.now)))) }
 {
     let body = run_body(alloc, run, inputs)?;
     let target = format!(in alloc; "/api/v1/distserver/run_job/{job}")?;
@@ -233,7 +222,7 @@ pub(crate) fn run_request(
     job: JobId,
     run: &RunJobHttpRequest,
     inputs: &[u8],
-) -> Result<Bytes, CallError>
+) -> Result<Bytes, HttpError>
     ensures text { IfOk result (λ bytes. bytes
         ≡ request_text (run_with (addr_text server) token.now job run.now inputs.now)) }
     ensures asks { IfOk result (λ bytes. IsToken token.now
@@ -241,8 +230,8 @@ pub(crate) fn run_request(
         → (verdict : ℕ → List ℕ → Result ⊤ TokenError) → verdict job.0 token.now ≡ Ok tt
         → AsksRun verdict bytes job run.now inputs.now) }
     ensures low { OnOk result (length (spelling.run_text run.now) < 2 ^ 32) }
-    ensures err { IfErr result (λ e. (e ≡ CallError.Memory)
-        ⊎ ((e ≡ CallError.HeadTooLong) × (2 ^ 32 ≤ length (spelling.run_text run.now)))) }
+    ensures err { IfErr result (λ e. (e ≡ HttpError.Memory)
+        ⊎ ((e ≡ HttpError.HeadTooLong) × (2 ^ 32 ≤ length (spelling.run_text run.now)))) }
 {
     fits(server.addr());
     let bytes = run_text(alloc, server, token, job, run, inputs)?;

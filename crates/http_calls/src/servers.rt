@@ -6,9 +6,9 @@ ghost use Rattle.url.specs.Setters.{ip_host, set_ip_host, set_port, set_path};
 ghost use Rattle.http_calls.specs.Servers.{host_at, port_at, http_url, server_url};
 ghost use Rattle.http_calls.specs.Urls.{IsAbsolutePath};
 
-use crate::error::CallError;
 use dist_types::addr::Addr;
 use dist_types::ids::{JobId, ServerId};
+use http_head::error::HttpError;
 use std::alloc::Global;
 use std::net::IpAddr;
 use url::Url;
@@ -35,59 +35,59 @@ pub(crate) fn port_of(addr: Addr) -> u16
 
 /// A URL of some host.
 #[tactic(auto, using(crate::proofs::ServerLemmas::started))]
-fn somewhere(alloc: Global) -> Result<Url, CallError>
+fn somewhere(alloc: Global) -> Result<Url, HttpError>
     ensures ok { IfOk result (λ url. url
         ≡ http_url (Ipv4 (record { octets = 0 ∷ 0 ∷ 0 ∷ 0 ∷ [] })) None (codes "/")) }
-    ensures err { IfErr result (λ e. e ≡ CallError.Memory) }
+    ensures err { IfErr result (λ e. e ≡ HttpError.Memory) }
 {
     match Url::parse(alloc, "http://0.0.0.0/") {
         Ok(url) => Ok(url),
-        Err(_) => Err(CallError::Memory),
+        Err(_) => Err(HttpError::Memory),
     }
 }
 
 /// The same URL at another host.
-fn at_ip(url: Url, ip: IpAddr) -> Result<Url, CallError>
+fn at_ip(url: Url, ip: IpAddr) -> Result<Url, HttpError>
     ensures ok { IfOk result (λ new. set_ip_host url ip ≡ Ok new) }
-    ensures err { IfErr result (λ e. e ≡ CallError.Memory) }
+    ensures err { IfErr result (λ e. e ≡ HttpError.Memory) }
 {
     let mut url = url;
     match url.set_ip_host(ip) {
         Ok(()) => Ok(url),
-        Err(_) => Err(CallError::Memory),
+        Err(_) => Err(HttpError::Memory),
     }
 }
 
 /// The same URL at another port.
-fn at_port(url: Url, port: u16) -> Result<Url, CallError>
+fn at_port(url: Url, port: u16) -> Result<Url, HttpError>
     ensures ok { IfOk result (λ new. set_port url (Some port) ≡ Ok new) }
-    ensures err { IfErr result (λ e. e ≡ CallError.Memory) }
+    ensures err { IfErr result (λ e. e ≡ HttpError.Memory) }
 {
     let mut url = url;
     match url.set_port(Some(port)) {
         Ok(()) => Ok(url),
-        Err(_) => Err(CallError::Memory),
+        Err(_) => Err(HttpError::Memory),
     }
 }
 
 /// The same URL at another path.
-fn at_path(url: Url, path: &str) -> Result<Url, CallError>
+fn at_path(url: Url, path: &str) -> Result<Url, HttpError>
     ensures ok { IfOk result (λ new. new ≡ set_path url path.now) }
-    ensures err { IfErr result (λ e. e ≡ CallError.Memory) }
+    ensures err { IfErr result (λ e. e ≡ HttpError.Memory) }
 {
     let mut url = url;
     match url.set_path(path) {
         Ok(()) => Ok(url),
-        Err(_) => Err(CallError::Memory),
+        Err(_) => Err(HttpError::Memory),
     }
 }
 
 /// The URL of a path at a server. Refused for want of memory alone.
 #[tactic(auto, using(crate::proofs::ServerLemmas::placed))]
-fn at_server(alloc: Global, server: Addr, path: &str) -> Result<Url, CallError>
+fn at_server(alloc: Global, server: Addr, path: &str) -> Result<Url, HttpError>
     requires { IsAbsolutePath path.now }
     ensures ok { IfOk result (λ url. url ≡ server_url server path.now) }
-    ensures err { IfErr result (λ e. e ≡ CallError.Memory) }
+    ensures err { IfErr result (λ e. e ≡ HttpError.Memory) }
 {
     let url = somewhere(alloc)?;
     let url = at_ip(url, ip_of(server))?;
@@ -97,10 +97,10 @@ fn at_server(alloc: Global, server: Addr, path: &str) -> Result<Url, CallError>
 }
 
 /// Where a server is asked to take a job. Refused for want of memory alone.
-pub fn server_assign_job(alloc: Global, server_id: ServerId, job: JobId) -> Result<Url, CallError>
+pub fn server_assign_job(alloc: Global, server_id: ServerId, job: JobId) -> Result<Url, HttpError>
     ensures ok { IfOk result (λ url. url
         ≡ server_url server_id (codes "/api/v1/distserver/assign_job/" ++ decimal job.0)) }
-    ensures err { IfErr result (λ e. e ≡ CallError.Memory) }
+    ensures err { IfErr result (λ e. e ≡ HttpError.Memory) }
 {
     let path = format!(in alloc; "/api/v1/distserver/assign_job/{job}")?;
     let url = at_server(alloc, server_id.addr(), &path)?;
@@ -112,10 +112,10 @@ pub fn server_submit_toolchain(
     alloc: Global,
     server_id: ServerId,
     job: JobId,
-) -> Result<Url, CallError>
+) -> Result<Url, HttpError>
     ensures ok { IfOk result (λ url. url
         ≡ server_url server_id (codes "/api/v1/distserver/submit_toolchain/" ++ decimal job.0)) }
-    ensures err { IfErr result (λ e. e ≡ CallError.Memory) }
+    ensures err { IfErr result (λ e. e ≡ HttpError.Memory) }
 {
     let path = format!(in alloc; "/api/v1/distserver/submit_toolchain/{job}")?;
     let url = at_server(alloc, server_id.addr(), &path)?;
@@ -123,10 +123,10 @@ pub fn server_submit_toolchain(
 }
 
 /// Where a server is asked to run a job. Refused for want of memory alone.
-pub fn server_run_job(alloc: Global, server_id: ServerId, job: JobId) -> Result<Url, CallError>
+pub fn server_run_job(alloc: Global, server_id: ServerId, job: JobId) -> Result<Url, HttpError>
     ensures ok { IfOk result (λ url. url
         ≡ server_url server_id (codes "/api/v1/distserver/run_job/" ++ decimal job.0)) }
-    ensures err { IfErr result (λ e. e ≡ CallError.Memory) }
+    ensures err { IfErr result (λ e. e ≡ HttpError.Memory) }
 {
     let path = format!(in alloc; "/api/v1/distserver/run_job/{job}")?;
     let url = at_server(alloc, server_id.addr(), &path)?;

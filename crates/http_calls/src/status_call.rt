@@ -7,16 +7,17 @@ ghost use Rattle.http_head.specs.WrittenRequest.{request_text, IsWithinLimits};
 ghost use Rattle.http_routes.specs.declared.admission.Admission.{Admission};
 ghost use Rattle.http_routes.specs.declared.route.SchedRouted.TheVariants.{Status};
 ghost use Rattle.http_routes.specs.Asked.{IsAskedUnder};
-ghost use Rattle.http_calls.specs.Calls.{RefusesBase, status_request};
+ghost use Rattle.http_calls.specs.Calls.{RefusesBase, status_request, ReadsStatus};
+ghost use Rattle.http_calls.specs.Refusals.{IsReplyError};
 ghost use Rattle.http_calls.specs.Reply.{Resumes};
 ghost use Rattle.http_calls.specs.Urls.{IsHttp};
 
-use crate::error::CallError;
 use crate::reply::resumed;
 use crate::scheduler_calls::status_text;
 use dist_types::fault::Failed;
 use dist_types::results::SchedulerStatusResult;
 use dist_types::text::Bytes;
+use http_head::error::HttpError;
 use std::alloc::Global;
 use std::marker::Model;
 use url::Url;
@@ -40,12 +41,13 @@ impl StatusCall {
     /// The call that asks the scheduler at that base for its status, with no token: BadBase exactly where the
     /// base's scheme is not `http`; else refused for want of memory alone. Where the request is within the
     /// limits, it is read as one for the status.
-    pub fn start(alloc: Global, base: &Url) -> Result<StatusCall, CallError>
+    pub fn start(alloc: Global, base: &Url) -> Result<StatusCall, HttpError>
         ensures text { IfOk result (λ call. call ≡ request_text (status_request base.now)) }
         ensures asks { IfOk result (λ call. IsWithinLimits (status_request base.now)
             → (rules : Rules) (lets : List ℕ → Admission) (serves : List ℕ → Option Addr)
             (peer : Addr)
             → IsAskedUnder rules lets serves call peer (record { what = Status; json = false })) }
+        ensures reads { IfOk result (ReadsStatus base.now) }
         ensures http { OnOk result (IsHttp base.now) }
         ensures err { IfErr result (RefusesBase base.now) }
     {
@@ -62,9 +64,10 @@ impl StatusCall {
 
     /// The answer, by the reply that came: LinkFault exactly where none came; else what the reply says,
     /// unless memory ran out.
-    pub fn resume(self, reply: Result<&[u8], Failed>) -> Result<SchedulerStatusResult, CallError>
+    pub fn resume(self, reply: Result<&[u8], Failed>) -> Result<SchedulerStatusResult, HttpError>
         ensures told { Resumes wire.status_at reply.entry result }
-        ensures link { (result ≡ Err CallError.LinkFault) ↔ IsErr reply.entry }
+        ensures link { (result ≡ Err HttpError.LinkFault) ↔ IsErr reply.entry }
+        ensures errors { IfErr result IsReplyError }
     {
         resumed(self.alloc, reply)
     }

@@ -5,23 +5,23 @@ ghost use Rattle.url.specs.Parts.{IsValid};
 ghost use Rattle.http_calls.specs.Calls.{RefusesBase};
 ghost use Rattle.http_calls.specs.Urls.{IsHttp, IsAbsolutePath, at_path};
 
-use crate::error::CallError;
 pub use crate::servers::{server_assign_job, server_run_job, server_submit_toolchain};
 use dist_types::fault::Memory;
 use dist_types::ids::JobId;
+use http_head::error::HttpError;
 use std::alloc::Global;
 use url::Url;
 
 /// Whether a base is an `http` URL: BadBase where it is not.
-pub(crate) fn tested(base: &Url) -> Result<(), CallError>
+pub(crate) fn tested(base: &Url) -> Result<(), HttpError>
     ensures http { OnOk result (IsHttp base.now) }
     ensures valid { IsValid base.now }
-    ensures err { IfErr result (λ e. (e ≡ CallError.BadBase) × ¬ (IsHttp base.now)) }
+    ensures err { IfErr result (λ e. (e ≡ HttpError.BadBase) × ¬ (IsHttp base.now)) }
 {
     if base.scheme() == "http" {
         Ok(())
     } else {
-        Err(CallError::BadBase)
+        Err(HttpError::BadBase)
     }
 }
 
@@ -45,7 +45,7 @@ fn joined(base: &Url, path: &str) -> Result<Url, Memory>
 /// Where a job is asked for: BadBase exactly where the base's scheme is not `http`; else refused for want of
 /// memory alone.
 #[tactic(auto, using(crate::proofs::CallLemmas::alloc_path))]
-pub fn scheduler_alloc_job(base: &Url) -> Result<Url, CallError>
+pub fn scheduler_alloc_job(base: &Url) -> Result<Url, HttpError>
     ensures http { OnOk result (IsHttp base.now) }
     ensures ok { IfOk result (λ url. url ≡ at_path base.now (codes "/api/v1/scheduler/alloc_job")) }
     ensures valid { IsValid base.now }
@@ -68,7 +68,7 @@ pub(crate) fn heartbeat_url(base: &Url) -> Result<Url, Memory>
 
 /// Where a server's heartbeat is told: BadBase exactly where the base's scheme is not `http`; else refused
 /// for want of memory alone.
-pub fn scheduler_heartbeat_server(base: &Url) -> Result<Url, CallError>
+pub fn scheduler_heartbeat_server(base: &Url) -> Result<Url, HttpError>
     ensures http { OnOk result (IsHttp base.now) }
     ensures ok { IfOk result (λ url. url ≡ at_path base.now (codes "/api/v1/scheduler/heartbeat_server")) }
     ensures valid { IsValid base.now }
@@ -82,7 +82,7 @@ pub fn scheduler_heartbeat_server(base: &Url) -> Result<Url, CallError>
 /// Where it is told that a server is to drain: BadBase exactly where the base's scheme is not `http`; else
 /// refused for want of memory alone.
 #[tactic(auto, using(crate::proofs::CallLemmas::drain_path))]
-pub fn scheduler_drain_server(base: &Url) -> Result<Url, CallError>
+pub fn scheduler_drain_server(base: &Url) -> Result<Url, HttpError>
     ensures http { OnOk result (IsHttp base.now) }
     ensures ok { IfOk result (λ url. url ≡ at_path base.now (codes "/api/v1/scheduler/drain_server")) }
     ensures valid { IsValid base.now }
@@ -96,7 +96,7 @@ pub fn scheduler_drain_server(base: &Url) -> Result<Url, CallError>
 /// Where the status is asked for: BadBase exactly where the base's scheme is not `http`; else refused for
 /// want of memory alone.
 #[tactic(auto, using(crate::proofs::CallLemmas::status_path))]
-pub fn scheduler_status(base: &Url) -> Result<Url, CallError>
+pub fn scheduler_status(base: &Url) -> Result<Url, HttpError>
     ensures http { OnOk result (IsHttp base.now) }
     ensures ok { IfOk result (λ url. url ≡ at_path base.now (codes "/api/v1/scheduler/status")) }
     ensures valid { IsValid base.now }
@@ -122,7 +122,7 @@ pub(crate) fn state_url(alloc: Global, base: &Url, job: JobId) -> Result<Url, Me
 
 /// Where a job's state is told: BadBase exactly where the base's scheme is not `http`; else refused for want
 /// of memory alone.
-pub fn scheduler_job_state(alloc: Global, base: &Url, job: JobId) -> Result<Url, CallError>
+pub fn scheduler_job_state(alloc: Global, base: &Url, job: JobId) -> Result<Url, HttpError>
     ensures http { OnOk result (IsHttp base.now) }
     ensures ok { IfOk result (λ url. url
         ≡ at_path base.now (codes "/api/v1/scheduler/job_state/" ++ decimal job.0)) }

@@ -1,8 +1,7 @@
 //! What one start of a scheduler or a build server is given, and why it is refused.
 use dist_types::fault::Memory;
 use std::alloc::{AllocError, AllocFailed};
-use std::thread::Threads;
-use std::{io, thread};
+use std::io;
 
 /// What one start is given beside its configuration.
 #[derive(Clone, Copy, Debug, PartialEq, Eq)]
@@ -45,16 +44,5 @@ impl From<Memory> for StartFault {
 impl From<io::Error> for StartFault {
     fn from(_: io::Error) -> Self {
         StartFault
-    }
-}
-
-/// Whether a thread can be started. Refused where none can.
-pub fn has_thread<R: Threads>(rt: &R) -> Result<(), StartFault> {
-    match thread::spawn(rt, || ()) {
-        Ok(thread) => {
-            thread.join(rt);
-            Ok(())
-        }
-        Err(_) => Err(StartFault),
     }
 }

@@ -2,6 +2,7 @@ pub mod Bearer
 pub mod Cut
 pub mod Fields
 pub mod Head
+pub mod Lent
 pub mod Opening
 pub mod Stop
 pub mod Text

@@ -49,7 +49,7 @@ pub(crate) fn parse_head<'b>(head: &mut httparse::Request<'_, 'b>, bytes: &'b [u
 }
 
 /// Parses the reply's head that begins the bytes, within the limits.
-fn parse_reply_head<'b>(head: &mut httparse::Response<'_, 'b>, bytes: &'b [u8]) -> Parsed
+pub(crate) fn parse_reply_head<'b>(head: &mut httparse::Response<'_, 'b>, bytes: &'b [u8]) -> Parsed
     ensures { FindsReplyHead (length head.old.headers.now) bytes.now head.new result }
 {
     let len = match head.parse(bytes) {
@@ -122,7 +122,7 @@ fn copy_reply(
     })
 }
 
-fn after(bytes: &[u8], len: usize) -> &[u8]
+pub(crate) fn after(bytes: &[u8], len: usize) -> &[u8]
     requires { len ≤ length bytes.now }
     ensures { result.now ≡ drop len bytes.now }
 {

@@ -2,10 +2,10 @@
 //! connection is read for one.
 //!
 //! The contract: bytes are one request at most, and `read_head` answers it exactly where they are one; of
-//! replies `read_reply_head` alike, and `status_of` their status alone. `WrittenRequest::bytes` gives the
-//! text of a written request, and the law `requests_read_back` says that a sendable one is read with exactly
-//! its method, target, token, content type and body. Bytes have one stop and one cut. Want of memory is the
-//! one other answer.
+//! replies `read_reply_head` alike, `lent_reply` their status and body, and `status_of` their status alone.
+//! `WrittenRequest::bytes` gives the text of a written request, and the law `requests_read_back` says that a
+//! sendable one is read with exactly its method, target, token, content type and body. Bytes have one stop
+//! and one cut. Want of memory is the one other answer.
 //!
 //! The layers above use all of the modules, and of the definitions `IsRequest`, `IsReply`, `HasStatus`,
 //! `header`, `token_in`, `request_text`, `IsSendable`, `Carries`, `stop_of` and `IsCut`.
@@ -17,6 +17,7 @@ pub mod field;
 pub mod fields;
 pub mod head;
 pub mod laws;
+pub mod lent_reply;
 mod message;
 pub mod opening;
 pub mod reply;

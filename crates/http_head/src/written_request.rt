@@ -1,6 +1,7 @@
 //! The requests that are written.
-ghost use Rattle.std.specs.Prelude.{◌≡◌, IfOk, option_copied, string_bytes};
-ghost use Rattle.http_head.specs.WrittenRequest.{request_text, head_text, body_of};
+ghost use Rattle.std.specs.Prelude.{◌≡◌, ◌++◌, IfOk, OnOk, option_copied, string_bytes};
+ghost use Rattle.http_head.specs.WrittenRequest.{request_text, head_text, body_of, method_text};
+ghost use Rattle.http_head.specs.WrittenRequest.{token_line, content_lines};
 
 use dist_types::text::{Bytes, Text};
 use std::alloc::{AllocError, Global};
@@ -44,79 +45,6 @@ impl fmt::Display for Method {
     }
 }
 
-/// The line of a token, if there is one.
-#[derive(Drop)]
-struct TokenLine<'a>(Option<&'a str>);
-
-impl fmt::Display for TokenLine<'_> {
-    ghost use Rattle.std.specs.Prelude.{Some, option_copied};
-    ghost use Rattle.http_head.specs.WrittenRequest.{token_line};
-
-    ghost output = { λ t. Some (token_line (option_copied t.0)) };
-
-    fn fmt<W: fmt::Write>(&self, f: &mut fmt::Formatter<W>) -> fmt::Result {
-        match self.0 {
-            Some(token) => write!(f, "Authorization: Bearer {token}\r\n"),
-            None => Ok(()),
-        }
-    }
-}
-
-/// The lines of a body of so many bytes.
-#[derive(Drop)]
-struct ContentLines {
-    method: Method,
-    len: usize,
-}
-
-impl fmt::Display for ContentLines {
-    ghost use Rattle.std.specs.Prelude.{Some};
-    ghost use Rattle.http_head.specs.WrittenRequest.{content_lines};
-
-    ghost output = { λ c. Some (content_lines c.method c.len) };
-
-    fn fmt<W: fmt::Write>(&self, f: &mut fmt::Formatter<W>) -> fmt::Result {
-        let len = self.len;
-        match self.method {
-            Method::Get => Ok(()),
-            Method::Post => write!(
-                f,
-                "Content-Type: application/octet-stream\r\nContent-Length: {len}\r\n"
-            ),
-        }
-    }
-}
-
-/// The head of a request with a body of so many bytes.
-#[derive(Drop)]
-struct Head<'a> {
-    method: Method,
-    target: &'a str,
-    host: &'a str,
-    token: Option<&'a str>,
-    len: usize,
-}
-
-impl fmt::Display for Head<'_> {
-    ghost use Rattle.std.specs.Prelude.{Some, option_copied};
-    ghost use Rattle.http_head.specs.WrittenRequest.{head_with};
-
-    ghost output = { λ h. Some (head_with h.method h.target.now h.host.now (option_copied h.token) h.len) };
-
-    fn fmt<W: fmt::Write>(&self, f: &mut fmt::Formatter<W>) -> fmt::Result {
-        let method = self.method;
-        let target = self.target;
-        let host = self.host;
-        let token = TokenLine(self.token);
-        let len = self.len;
-        let content = ContentLines { method, len };
-        write!(
-            f,
-            "{method} {target} HTTP/1.1\r\nHost: {host}\r\n{token}{content}Connection: close\r\n\r\n"
-        )
-    }
-}
-
 fn token_of(request: &WrittenRequest) -> Option<&str>
     ensures { option_copied result ≡ request.now.token }
 {
@@ -151,19 +79,57 @@ fn room_for(request: &WrittenRequest) -> usize {
         .saturating_add(body)
 }
 
+fn name_of(method: Method) -> &'static str
+    ensures { result.now ≡ method_text method }
+{
+    match method {
+        Method::Get => "GET",
+        Method::Post => "POST",
+    }
+}
+
+/// Adds the line of a token, if there is one.
+fn push_token(head: &mut String, token: Option<&str>) -> Result<(), AllocError>
+    ensures { OnOk result
+        (string_bytes head.new ≡ string_bytes head.old ++ token_line (option_copied token.entry)) }
+{
+    if let Some(token) = token {
+        head.push_str("Authorization: Bearer ")?;
+        head.push_str(token)?;
+        head.push_str("\r\n")?;
+    }
+    Ok(())
+}
+
+/// Adds the lines of a body of so many bytes.
+fn push_content(head: &mut String, method: Method, len: usize) -> Result<(), AllocError>
+    ensures { OnOk result (string_bytes head.new ≡ string_bytes head.old ++ content_lines method len) }
+{
+    match method {
+        Method::Get => Ok(()),
+        Method::Post => {
+            head.push_str("Content-Type: application/octet-stream\r\nContent-Length: ")?;
+            write!(head, "{len}")?;
+            head.push_str("\r\n")?;
+            Ok(())
+        }
+    }
+}
+
 fn head_of(alloc: Global, request: &WrittenRequest) -> Result<String, AllocError>
     ensures { IfOk result (λ head. string_bytes head ≡ head_text request.now) }
 {
-    let head = Head {
-        method: request.method,
-        target: request.target.get(),
-        host: request.host.get(),
-        token: token_of(request),
-        len: body_of(request).len(),
-    };
-    let mut text = String::with_capacity(alloc, room_for(request))?;
-    write!(text, "{head}")?;
-    Ok(text)
+    let mut head = String::with_capacity(alloc, room_for(request))?;
+    head.push_str(name_of(request.method))?;
+    head.push_str(" ")?;
+    head.push_str(request.target.get())?;
+    head.push_str(" HTTP/1.1\r\nHost: ")?;
+    head.push_str(request.host.get())?;
+    head.push_str("\r\n")?;
+    push_token(&mut head, token_of(request))?;
+    push_content(&mut head, request.method, body_of(request).len())?;
+    head.push_str("Connection: close\r\n\r\n")?;
+    Ok(head)
 }
 
 impl WrittenRequest {

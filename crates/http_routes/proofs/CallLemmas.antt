@@ -1,6 +1,7 @@
 -- What the reply to a call says, in the words of its parts.
 use Rattle.std.proofs.Common.{◌≡◌, ◌↔◌, inl, inr, ◌==◌, ℕ, ◌+◌, ◌<◌, get_or, Bool, true, false, cond, List}
-use Rattle.std.proofs.Common.{length, Option, Some, None, Result, Ok, Err, refl, sym, ap, subst, ◌∙◌, arith}
+use Rattle.std.proofs.Common.{[], length, Option, Some, None, Result, Ok, Err, MatchResult, refl, sym, ap, subst}
+use Rattle.std.proofs.Common.{◌∙◌, arith}
 use Rattle.std.proofs.lemmas.Bool.Decides.{nat_tests}
 use Rattle.std.proofs.lemmas.List.{get_or-append-add}
 use Rattle.httparse.specs.Grammar.{print_response}
@@ -13,11 +14,14 @@ use Rattle.dist_wire.specs.Reading.{assign_at}
 use Rattle.http_head.specs.declared.error.HttpError.{HttpError}
 use Rattle.http_head.specs.declared.error.HttpError.TheVariants.{BadHead, WrongContentType, ParseError}
 use Rattle.http_head.specs.declared.error.HttpError.TheVariants.{BadRealIp, NoRoute, Unauthorised, Status}
-use Rattle.http_head.specs.declared.error.HttpError.TheVariants.{Memory}
+use Rattle.http_head.specs.declared.error.HttpError.TheVariants.{Memory, BadRunHead, HeadTooLong, BadBase}
+use Rattle.http_head.specs.declared.error.HttpError.TheVariants.{LinkFault, NotLocal, Packager, Local}
 use Rattle.http_head.specs.declared.reply.Reply.{Reply}
-use Rattle.http_routes.specs.CallReply.{told_by, IsToldBy, Reads, IsReplyFault, answer_by, IsAnswer, assigned_by}
+use Rattle.http_routes.specs.CallReply.{told_by, IsToldBy, Reads, RefusesTold, answer_by, IsAnswer, assigned_by}
 use Rattle.http_routes.specs.CallReply.{IsAssigned}
 use Rattle.http_head.specs.Head.{IsReply}
+use Rattle.http_head.specs.Lent.{with_fields, Lends}
+use Rattle.http_head.specs.declared.lent_reply.LentReply.{LentReply}
 use Rattle.http_routes.specs.Message.{BeginsWith, begins_in}
 use Rattle.http_routes.specs.Steps.{unless_none}
 use Rattle.http_routes.proofs.MessageLemmas.{read_begins, begins_read}
@@ -42,44 +46,36 @@ pub one_assignment : (bytes : List ℕ) (a b : Result AssignJobResult CallFault)
 one_assignment bytes a b (s, x, e) (t, y, f) = e
     ∙ (ap assigned_by (one_telling assign_at bytes s t x y) ∙ sym f)
 
--- what bytes say is no message for one of three reasons
-pub told_fault : {M : Type 0} (at : List ℕ → Option (M × List ℕ)) (bytes : List ℕ) (e : HttpError)
-    → IsToldBy at bytes (Err e) → IsReplyFault e
+-- what a reply that was read tells, its bytes say
+pub told_reads : {M : Type 0} (at : List ℕ → Option (M × List ℕ)) (bytes : List ℕ) (r : Reply)
+    (answer : Result M HttpError)
+    → IsReply bytes r → MatchResult answer (λ m. told_by at r ≡ Ok m) (RefusesTold (told_by at r))
+    → Reads at bytes answer
+told_reads at bytes r (Ok m) is told = inl (r, is, sym told)
+told_reads at bytes r (Err ParseError) is told = inl (r, is, sym told)
+told_reads at bytes r (Err (Status code body)) is told = inl (r, is, sym told)
+told_reads at bytes r (Err Memory) is told = tt {0}
+told_reads at bytes r (Err BadHead) is told = told
+told_reads at bytes r (Err WrongContentType) is told = told
+told_reads at bytes r (Err BadRealIp) is told = told
+told_reads at bytes r (Err NoRoute) is told = told
+told_reads at bytes r (Err (Unauthorised word)) is told = told
+told_reads at bytes r (Err (BadRunHead whole)) is told = told
+told_reads at bytes r (Err HeadTooLong) is told = told
+told_reads at bytes r (Err BadBase) is told = told
+told_reads at bytes r (Err LinkFault) is told = told
+told_reads at bytes r (Err NotLocal) is told = told
+told_reads at bytes r (Err Packager) is told = told
+told_reads at bytes r (Err (Local refusal)) is told = told
+
+-- what a reply tells that stands in its bytes, they say, whatever its fields
+pub lent_reads : {M : Type 0} (at : List ℕ → Option (M × List ℕ)) (bytes : List ℕ) (r : LentReply)
+    (answer : Result M HttpError) → Lends bytes r
+    → MatchResult answer (λ m. told_by at (with_fields r []) ≡ Ok m)
+    (RefusesTold (told_by at (with_fields r [])))
+    → Reads at bytes answer
 unfolding told_by
-told_fault {M = M} at bytes e (inr (none, h)) = let same : ParseError ≡ e =
-    cc in subst (λ (d : HttpError). IsReplyFault d) same (tt {0})
-told_fault {M = M} at bytes e (inl (r, x, h)) = by_test (r.code == 200) (begins_in at r.body) (sym h)
-  where
-    by_test : (b : Bool) (o : Option M) → cond b (unless_none ParseError o) (Err (Status r.code r.body))
-        ≡ Err e → IsReplyFault e
-    by_test true (Some m) k = absurd cc
-    by_test true None k = let same : ParseError ≡ e = cc in subst (λ (d : HttpError). IsReplyFault d) same
-        (tt {0})
-    by_test false o k = let same : Status r.code r.body ≡ e =
-        cc in subst (λ (d : HttpError). IsReplyFault d) same (tt {0})
-
--- an error that no reply means
-abbrev pub IsOther : HttpError → Type 0
-IsOther ParseError = ⊥
-IsOther (Status code body) = ⊥
-IsOther Memory = ⊥
-IsOther other = Unit {0}
-
-pub none_other : {M : Type 0} (at : List ℕ → Option (M × List ℕ)) (bytes : List ℕ) (r : Result M HttpError)
-    (e d : HttpError)
-    → Reads at bytes r → r ≡ Err e → e ≡ d → IsOther d → ⊥
-none_other {M = M} at bytes r e d reads is same other =
-    by_kind d (subst (λ (x : Result M HttpError). Reads at bytes x) (is ∙ ap Err same) reads) other
-  where
-    by_kind : (d : HttpError) → Reads at bytes (Err d) → IsOther d → ⊥
-    by_kind BadHead h o = told_fault at bytes BadHead (h (λ s. absurd cc))
-    by_kind WrongContentType h o = told_fault at bytes WrongContentType (h (λ s. absurd cc))
-    by_kind BadRealIp h o = told_fault at bytes BadRealIp (h (λ s. absurd cc))
-    by_kind NoRoute h o = told_fault at bytes NoRoute (h (λ s. absurd cc))
-    by_kind (Unauthorised word) h o = told_fault at bytes (Unauthorised word) (h (λ s. absurd cc))
-    by_kind ParseError h o = o
-    by_kind (Status code body) h o = o
-    by_kind Memory h o = o
+lent_reads at bytes r answer (fields, is) told = told_reads at bytes (with_fields r fields) answer is told
 
 -- an answer that is taken tells a state that an assignment may tell
 pub begins_assigned : (bytes : List ℕ) (a : AssignJobResult) → IsAssigned bytes (Ok a) → is_initial a.state

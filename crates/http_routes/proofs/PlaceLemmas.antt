@@ -9,6 +9,7 @@ use Rattle.std.specs.Str.Parse.{without_leading_plus, digits_value}
 use Rattle.std.proofs.lemmas.Bool.Decides.{nat_tests}
 use Rattle.std.proofs.lemmas.Option.{cond_some}
 use Rattle.std.proofs.Math.Seq.{take-append_seam, drop-append_seam, take-length}
+use Rattle.std.proofs.lemmas.List.{append_assoc, append-nil, take-append-drop}
 use Rattle.std.proofs.lemmas.Fmt.{digits_decimal, digits_value-decimal, decimal_nonempty}
 use Rattle.std.proofs.lemmas.Str.Parse.{without_leading_plus_none}
 use Rattle.std.specs.Borrow.{Bor}
@@ -156,13 +157,13 @@ job_named front r job e =
       says = job_said id job h;
     }
 
+begun : (front rest : List ℕ) → starts_with nat_eq (front ++ rest) front ≡ true
+begun front rest =
+    subst (λ (t : List ℕ). bytes_eq front t ≡ true) (sym (take-append_seam front rest)) (same_text front)
+
 -- what stands behind a front that a text begins with
 pub front_stripped : (front rest : List ℕ) → stripped front (front ++ rest) ≡ Some rest
-front_stripped front rest =
-    let begun : starts_with nat_eq (front ++ rest) front ≡ true =
-    subst (λ (t : List ℕ). bytes_eq front t ≡ true) (sym (take-append_seam front rest)) (same_text front)
-    in
-    rw (begun, drop-append_seam front rest) refl
+front_stripped front rest = rw (begun front rest, drop-append_seam front rest) refl
 
 pub named_job : (front : List ℕ) (r : Request) (job : JobId) → NamesJob r front job
     → job_of front r ≡ Some job
@@ -177,6 +178,52 @@ no_job_named front r none = by_option (job_of front r) refl
     by_option : (o : Option JobId) → job_of front r ≡ o → o ≡ None
     by_option None e = refl
     by_option (Some job) e = absurd (none job (job_named front r job e))
+
+-- ---- targets that begin otherwise
+
+-- a target begins with what its path begins with
+begins_alike : (front target rest : List ℕ) → path_of target ≡ front ++ rest
+    → starts_with nat_eq target front ≡ true
+begins_alike front target rest is =
+    let more = drop (position_or_len (λ b. b == 63) target) target in
+    let whole : target ≡ front ++ (rest ++ more) =
+    sym (take-append-drop (position_or_len (λ b. b == 63) target) target)
+    ∙ (ap (λ (t : List ℕ). t ++ more) is ∙ append_assoc front rest more) in
+    subst (λ (t : List ℕ). starts_with nat_eq t front ≡ true) (sym whole) (begun front (rest ++ more))
+
+-- a request whose target does not begin with a path is not there
+pub is_elsewhere : (r : Request) (method path : List ℕ) → starts_with nat_eq r.target path ≡ false
+    → is_at method path r ≡ false
+unfolding is_at
+is_elsewhere r method path h =
+    let same = bytes_eq (path_of r.target) path in
+    by_tests (bytes_eq r.method method) same (other same refl)
+  where
+    other : (b : Bool) → bytes_eq (path_of r.target) path ≡ b → b ≡ false
+    other false e = refl
+    other true e =
+        let all = equal_texts (path_of r.target) path e ∙ sym (append-nil path) in
+        let begins = begins_alike path r.target [] all in
+        absurd cc
+
+    by_tests : (a b : Bool) → b ≡ false → (a && b) ≡ false
+    by_tests true b e = e
+    by_tests false b e = refl
+
+-- one whose target does not begin with a front names no job behind it
+pub names_elsewhere : (front : List ℕ) (r : Request) → starts_with nat_eq r.target front ≡ false
+    → job_of front r ≡ None
+unfolding job_of
+names_elsewhere front r h =
+    by_test (bytes_eq r.method (codes "POST")) (stripped front (path_of r.target)) refl
+  where
+    by_test : (b : Bool) (o : Option (List ℕ)) → stripped front (path_of r.target) ≡ o
+        → cond b (given_job o) None ≡ None
+    by_test true None e = refl
+    by_test false o e = refl
+    by_test true (Some rest) e =
+        let begins = begins_alike front r.target rest (behind_front front (path_of r.target) rest e) in
+        absurd cc
 
 -- ---- jobs that were written
 

@@ -1,6 +1,6 @@
 -- What is written for a call is read as it was meant.
 use Rattle.std.proofs.Common.{◌≡◌, ℕ, ◌+◌, ◌<◌, ◌^◌, ◌==◌, not, true, false, List, [], ◌++◌}
-use Rattle.std.proofs.Common.{length, drop, codes, decimal, Option, Some, Result, Ok, refl, sym, ap}
+use Rattle.std.proofs.Common.{length, drop, codes, decimal, Option, Some, None, Result, Ok, refl, sym, ap}
 use Rattle.std.proofs.Common.{◌∙◌, arith, append-nil, length-append}
 use Rattle.std.specs.Prelude.{IsUtf8, ⊤}
 use Rattle.std.specs.List.{list_all}
@@ -18,6 +18,8 @@ use Rattle.dist_types.specs.declared.results.JobState.TheVariants as State
 use Rattle.dist_types.specs.declared.rules.Rules.{Rules}
 use Rattle.dist_types.specs.declared.rules.Rules.TheVariants.{Two}
 use Rattle.dist_types.specs.declared.token_error.TokenError.{TokenError}
+use Rattle.dist_wire.specs.MessageLaws.{toolchain_codec}
+use Rattle.dist_wire.specs.Reading.{toolchain_at}
 use Rattle.dist_wire.specs.Spelling.{SpellsToolchain, SpellsHeartbeat, SpellsState, SpellsDrain, SpellsRun}
 use Rattle.dist_wire.specs.Written.{bytes_text, heartbeat_text, state_bytes, drain_text, run_text}
 use Rattle.dist_wire.specs.declared.drain.DrainServerHttpRequest.{DrainServerHttpRequest}
@@ -38,16 +40,21 @@ use Rattle.http_routes.specs.declared.admission.Admission.TheVariants.{Admitted}
 use Rattle.http_routes.specs.declared.route.SchedRouted.TheVariants.{Alloc, Beat, Update, Status, Drain}
 use Rattle.http_routes.specs.declared.server_route.ServerRouted.TheVariants.{Assign, Submit, Run}
 use Rattle.http_routes.specs.Asked.{IsAskedUnder}
-use Rattle.http_routes.specs.InOrder.{NamesJob, InForm}
+use Rattle.http_routes.specs.InOrder.{NamesJob, InForm, IsStatus}
 use Rattle.http_routes.specs.Message.{HasMessage}
+use Rattle.http_routes.specs.ReadAs.{allocated, IsReadAs}
+use Rattle.http_routes.specs.Route.{answered}
 use Rattle.http_routes.specs.RunHead.{run_body}
 use Rattle.http_routes.specs.Sender.{IsFrom, Shows}
 use Rattle.http_routes.specs.ServerRoute.{body_at, AsksAssign, AsksSubmit, AsksRun}
 use Rattle.http_routes.specs.Requests.{post_with, alloc_with, status_with, heartbeat_with, state_with}
 use Rattle.http_routes.specs.Requests.{drain_with, assign_with, submit_with, run_with, CanGo}
-use Rattle.http_routes.proofs.PlaceLemmas.{no_query, written_job, job_named}
+use Rattle.http_routes.proofs.AskLemmas.{status_asked}
+use Rattle.http_routes.proofs.MessageLemmas.{held_message}
+use Rattle.http_routes.proofs.PlaceLemmas.{no_query, written_job, job_named, place_at, form_in}
+use Rattle.http_routes.proofs.ReadAsLemmas.{client_shows, client_shows_none, asks_job}
 use Rattle.http_routes.proofs.RouteLemmas.{asked_by, allocation_is, heartbeat_is, update_is, status_is}
-use Rattle.http_routes.proofs.RouteLemmas.{drain_is}
+use Rattle.http_routes.proofs.RouteLemmas.{drain_is, status_no_post}
 use Rattle.http_routes.proofs.RunHeadLemmas.{body_read_back, inputs_behind}
 use Rattle.http_routes.proofs.ServerLemmas as at_server
 
@@ -282,6 +289,58 @@ module _ (rules : Rules) (lets : List ℕ → Admission) (serves : List ℕ → 
             ∙ no_query (codes "/api/v1/scheduler/status") status_path.no_question;
       })
       (λ e. absurd (let both = sym c.no_accept ∙ e in cc))
+
+-- a request for a job, whatever the check of clients says of its token
+pub allocations_read_as : (host token tc : List ℕ) → CanGo host token (alloc_with host token tc)
+    → SpellsToolchain tc (bytes_text tc)
+    → IsReadAs (request_text (alloc_with host token tc)) (Some token) (allocated tc)
+unfolding alloc_with
+allocations_read_as host token tc g spelled =
+    let path = codes "/api/v1/scheduler/alloc_job" in
+    let body = bytes_text tc in
+    let (r, x, c) = posted path host token body alloc_path g in
+    let there = place_at r (codes "POST") path record {
+      sent_by = c.method;
+      sent_to = at_path path host token body alloc_path r c;
+    } in
+    let message = held_message SpellsToolchain toolchain_at toolchain_codec r tc
+    (holds path host token body alloc_path r c SpellsToolchain tc spelled) in
+    record {
+      request = r;
+      is = x;
+      shows = client_shows r token there (shows path host token body alloc_path r c);
+      asks = λ rules serves peer said. asks_job rules serves r peer said tc there message;
+      form = sym (form_in r false (in_binary path host token body alloc_path r c));
+    }
+
+pub statuses_read_as : (host : List ℕ) → list_all is_visible host ≡ true → IsWithinLimits (status_with host)
+    → IsReadAs (request_text (status_with host)) None (λ said. Status)
+unfolding status_with
+statuses_read_as host visible limits =
+    let (r, x, c) = requests_read_back (status_with host) record {
+      some_target = status_path.some;
+      target_text = status_path.text;
+      target = status_path.visible;
+      host = visible;
+      token = tt {0};
+      plain = refl;
+      limits = limits;
+    } in
+    let at : IsStatus r = record {
+      sent_by = c.method;
+      sent_to = ap path_of c.target ∙ no_query (codes "/api/v1/scheduler/status") status_path.no_question;
+    } in
+    let no_alloc = status_no_post r (codes "/api/v1/scheduler/alloc_job") at in
+    let no_beat = status_no_post r (codes "/api/v1/scheduler/heartbeat_server") at in
+    let there = place_at r (codes "GET") (codes "/api/v1/scheduler/status") at in
+    record {
+      request = r;
+      is = x;
+      shows = client_shows_none r no_alloc;
+      asks = λ rules serves peer said.
+          ap answered (status_asked rules serves r peer said no_alloc no_beat there);
+      form = sym (form_in r false (λ e. absurd (let both = sym c.no_accept ∙ e in cc)));
+    }
 
 module _ (lets : List ℕ → Admission) (serves : List ℕ → Option Addr) (peer : Addr) where
   pub drains_read_back : (host token : List ℕ) (drain : DrainServerHttpRequest) (server : Addr)

@@ -22,16 +22,25 @@ abbrev pub IsToldBy : {M : Type 0} → (List ℕ → Option (M × List ℕ)) →
 IsToldBy at bytes told =
     ((r : Reply) × IsReply bytes r × (told ≡ told_by at r)) ⊎ (IsNoReply bytes × (told ≡ Err ParseError))
 
+-- why the bytes of a reply give no message: they are no reply, or hold none, or tell another status; want of
+-- memory says nothing of them
+abbrev pub RefusesMessage : {M : Type 0} → (List ℕ → Option (M × List ℕ)) → List ℕ → HttpError → Type 0
+RefusesMessage {M} at bytes ParseError = IsToldBy {M = M} at bytes (Err ParseError)
+RefusesMessage {M} at bytes (Status code body) = IsToldBy {M = M} at bytes (Err (Status code body))
+RefusesMessage at bytes Memory = Unit {0}
+RefusesMessage at bytes other = ⊥
+
 -- the answer is what the bytes say, unless memory ran out
 abbrev pub Reads : {M : Type 0} → (List ℕ → Option (M × List ℕ)) → List ℕ → Result M HttpError → Type 0
-Reads at bytes answer = MatchResult answer (λ m. IsToldBy at bytes (Ok m))
-    (λ e. ¬ (e ≡ Memory) → IsToldBy at bytes (Err e))
+Reads {M} at bytes answer = MatchResult answer (λ m. IsToldBy {M = M} at bytes (Ok m))
+    (RefusesMessage {M = M} at bytes)
 
--- why a reply tells no message: it is no reply, or holds none, or its status is another
-abbrev pub IsReplyFault : HttpError → Type 0
-IsReplyFault ParseError = Unit {0}
-IsReplyFault (Status code body) = Unit {0}
-IsReplyFault other = ⊥
+-- the same of a reply that was read, by what it tells
+abbrev pub RefusesTold : {M : Type 0} → Result M HttpError → HttpError → Type 0
+RefusesTold told ParseError = told ≡ Err ParseError
+RefusesTold told (Status code body) = told ≡ Err (Status code body)
+RefusesTold told Memory = Unit {0}
+RefusesTold told other = ⊥
 
 -- why a reply is no answer to a call
 abbrev pub call_fault : HttpError → CallFault

@@ -1,5 +1,6 @@
 pub mod ErrJson
 pub mod Reply
+pub mod ReadAs
 pub mod ReadBack
 pub mod Steps
 pub mod Place

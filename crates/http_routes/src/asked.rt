@@ -46,8 +46,7 @@ pub fn asked_of_checks<K: ClientAuthCheck, V: ServerAuthCheck>(
             Ok(Asked { what, json })
         }
         Err(HttpError::BadHead) => bad_question(alloc),
-        Err(HttpError::Memory) => Err(HttpError::Memory),
-        Err(_) => unreachable!(),
+        Err(_) => Err(HttpError::Memory),
     }
 }
 

@@ -1,41 +1,46 @@
 //! What the reply to a call says.
-ghost use Rattle.std.specs.Prelude.{◌≡◌, IfOk, IfErr, true};
-ghost use Rattle.http_routes.specs.CallReply.{told_by, Reads, IsAnswer, begun, IsAssigned};
-ghost use Rattle.http_routes.specs.Steps.{IsHttpAnswer};
+ghost use Rattle.std.specs.Prelude.{◌≡◌, Ok, MatchResult, IfOk, IfErr, true, []};
+ghost use Rattle.http_routes.specs.CallReply.{told_by, Reads, RefusesTold, IsAnswer, begun, IsAssigned};
 ghost use Rattle.core_rules.specs.Rule.{is_initial};
+ghost use Rattle.http_head.specs.Lent.{with_fields};
 
-use crate::error::{HttpError, of_wire};
-use crate::head::read_reply_head;
-use crate::reply::Reply;
+use crate::error::HttpError;
 use core_rules::texts::is_initial;
 use dist_types::outgoing::CallFault;
 use dist_types::results::AssignJobResult;
+use dist_types::text::Bytes;
+use dist_wire::error::WireError;
 use dist_wire::message::Message;
+use http_head::lent_reply::{LentReply, lent_reply};
 use std::alloc::Global;
 
-/// The message of a reply.
+/// The message of a reply, whatever its fields.
 #[tactic(auto, unfolding(crate::specs::CallReply::told_by))]
-fn told_by<M: Message>(alloc: Global, reply: Reply) -> Result<M, HttpError>
-    ensures { IsHttpAnswer (told_by M.at reply) result }
+fn told_by<M: Message>(alloc: Global, reply: LentReply<'_>) -> Result<M, HttpError>
+    ensures { MatchResult result (λ m. told_by M.at (with_fields reply.entry []) ≡ Ok m)
+        (RefusesTold (told_by M.at (with_fields reply.entry []))) }
 {
     if reply.code != 200 {
-        return Err(HttpError::Status(reply.code, reply.body));
+        let body = Bytes::from_slice(alloc, reply.body)?;
+        return Err(HttpError::Status(reply.code, body));
     }
-    match M::read(alloc, reply.body.get()) {
+    match M::read(alloc, reply.body) {
         Ok((message, _)) => Ok(message),
-        Err(e) => Err(of_wire(e)),
+        Err(WireError::ParseError) => Err(HttpError::ParseError),
+        Err(WireError::Memory) => Err(HttpError::Memory),
     }
 }
 
 /// The message that the bytes of a reply tell: it has status 200, and the message begins its body. ParseError
 /// exactly where the bytes are no reply, or one with status 200 that begins with no message; Status, with the
 /// body, exactly where they are a reply with another status; else refused for want of memory alone.
+#[tactic(auto, using(crate::proofs::CallLemmas::lent_reads))]
 pub fn read_reply<M: Message>(alloc: Global, bytes: &[u8]) -> Result<M, HttpError>
     ensures { Reads M.at bytes.now result }
 {
-    match read_reply_head(alloc, bytes) {
-        Ok(reply) => told_by(alloc, reply),
-        Err(e) => Err(e),
+    match lent_reply(bytes) {
+        Some(reply) => told_by(alloc, reply),
+        None => Err(HttpError::ParseError),
     }
 }
 
@@ -47,14 +52,9 @@ pub fn answer<M: Message>(alloc: Global, reply: &[u8]) -> Result<Result<M, CallF
 {
     match read_reply(alloc, reply) {
         Ok(message) => Ok(Ok(message)),
-        Err(HttpError::Memory) => Err(HttpError::Memory),
         Err(HttpError::ParseError) => Ok(Err(CallFault::Unreadable)),
         Err(HttpError::Status(code, _)) => Ok(Err(CallFault::Status(code))),
-        Err(HttpError::BadHead) => unreachable!(),
-        Err(HttpError::WrongContentType) => unreachable!(),
-        Err(HttpError::BadRealIp) => unreachable!(),
-        Err(HttpError::NoRoute) => unreachable!(),
-        Err(HttpError::Unauthorised(_)) => unreachable!(),
+        Err(_) => Err(HttpError::Memory),
     }
 }
 
@@ -82,13 +82,8 @@ pub fn assigned(
 {
     match read_reply(alloc, reply) {
         Ok(answer) => Ok(begun(answer)),
-        Err(HttpError::Memory) => Err(HttpError::Memory),
         Err(HttpError::ParseError) => Ok(Err(CallFault::Unreadable)),
         Err(HttpError::Status(code, _)) => Ok(Err(CallFault::Status(code))),
-        Err(HttpError::BadHead) => unreachable!(),
-        Err(HttpError::WrongContentType) => unreachable!(),
-        Err(HttpError::BadRealIp) => unreachable!(),
-        Err(HttpError::NoRoute) => unreachable!(),
-        Err(HttpError::Unauthorised(_)) => unreachable!(),
+        Err(_) => Err(HttpError::Memory),
     }
 }

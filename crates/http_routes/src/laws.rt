@@ -1,6 +1,6 @@
 //! Laws over all bytes: each is a function with no body, whose contract is the law.
 ghost use Rattle.std.specs.Prelude.{◌≡◌, ◌↔◌, ◌⊎◌, ◌≤◌, ◌<◌, ◌^◌, ℕ, Bool, List, length, Option, Some};
-ghost use Rattle.std.specs.Prelude.{Result, Ok, Err, ⊤, true, false, codes};
+ghost use Rattle.std.specs.Prelude.{None, Result, Ok, Err, ⊤, true, false, codes};
 ghost use Rattle.dist_types.specs.Addr.{addr_text, ip_of, IsAddr};
 ghost use Rattle.dist_types.specs.declared.addr.Addr.{Addr};
 ghost use Rattle.dist_types.specs.declared.ids.JobId.{JobId};
@@ -30,16 +30,19 @@ ghost use Rattle.http_routes.specs.declared.refusal.Refusal.{Refusal};
 ghost use Rattle.http_routes.specs.declared.refusal.Refusal.TheVariants.{BadHead, NoRoute};
 ghost use Rattle.http_routes.specs.declared.reply.Response.{Response};
 ghost use Rattle.http_routes.specs.declared.route.Asked.{Asked};
+ghost use Rattle.http_routes.specs.declared.route.SchedRouted.{SchedRouted};
 ghost use Rattle.http_routes.specs.declared.route.SchedRouted.TheVariants.{Alloc, Beat, Update, Status};
 ghost use Rattle.http_routes.specs.declared.route.SchedRouted.TheVariants.{Drain, Done};
 ghost use Rattle.http_routes.specs.declared.server_route.ServerAsked.{ServerAsked};
 ghost use Rattle.http_routes.specs.declared.server_route.ServerRouted.TheVariants as server;
-ghost use Rattle.http_routes.specs.Asked.{IsAskedUnder};
+ghost use Rattle.http_routes.specs.Admission.{Admits};
+ghost use Rattle.http_routes.specs.Asked.{IsAskedOf, IsAskedUnder};
 ghost use Rattle.http_routes.specs.CallReply.{IsToldBy, IsAnswer, IsAssigned};
 ghost use Rattle.http_routes.specs.InOrder.{IsAt, InForm, IsAllocation, IsHeartbeat, IsUpdate, IsStatus};
 ghost use Rattle.http_routes.specs.InOrder.{IsDrain, IsAssignment, IsSubmission, IsRun};
 ghost use Rattle.http_routes.specs.Kind.{kind_of};
 ghost use Rattle.http_routes.specs.Message.{BeginsWith};
+ghost use Rattle.http_routes.specs.ReadAs.{allocated, IsReadAs};
 ghost use Rattle.http_routes.specs.ReadBack.{seen};
 ghost use Rattle.http_routes.specs.Refusal.{refusal_response};
 ghost use Rattle.http_routes.specs.Refused.{IsRefused, IsServerRefused};
@@ -50,6 +53,7 @@ ghost use Rattle.http_routes.specs.Settled.{server_settled, scheduler_settled, I
 ghost use Rattle.http_routes.specs.Requests.{alloc_with, status_with, heartbeat_with, state_with};
 ghost use Rattle.http_routes.specs.Requests.{drain_with, assign_with, submit_with, run_with, CanGo};
 
+use dist_token::checks::ClientAuthCheck;
 use dist_wire::message::Message;
 
 /// A reply that was written is read as it was meant.
@@ -229,6 +233,31 @@ pub fn statuses_read_back()
         → list_all is_visible host ≡ true → IsWithinLimits (status_with host)
         → IsAskedUnder rules lets serves (request_text (status_with host)) peer
         (record { what = Status; json = false }) }
+{}
+
+/// A request for a job is read as one for that toolchain, under that token, whatever a check of clients says of
+/// the token: it is what is asked where the check lets the client in, and else refused.
+pub fn allocations_read_as()
+    ensures { (host token tc : List ℕ)
+        → CanGo host token (alloc_with host token tc) → SpellsToolchain tc (bytes_text tc)
+        → IsReadAs (request_text (alloc_with host token tc)) (Some token) (allocated tc) }
+{}
+
+/// A request for the status is read as one, and shows no token.
+pub fn statuses_read_as()
+    ensures { (host : List ℕ) → list_all is_visible host ≡ true → IsWithinLimits (status_with host)
+        → IsReadAs (request_text (status_with host)) None (λ said. Status) }
+{}
+
+/// Bytes that are read so ask that of a scheduler under each check of clients, in whatever state it is: the check
+/// is asked about the token that is shown, and about nothing else, and its word settles what is asked.
+pub fn read_under_checks<K: ClientAuthCheck>()
+    ensures { (rules : Rules) (serves : List ℕ → Option Addr) (bytes : List ℕ) (shown : Option (List ℕ))
+        (what : Option Admission → SchedRouted) (peer : Addr) (now : ℕ) (old new : K) (asked : Asked)
+        → IsReadAs bytes shown what
+        → IsAskedOf rules K.may_answer K.shown serves bytes peer now old asked new
+        ↔ ((said : Option Admission) × Admits K.may_answer K.shown shown now old said new
+        × (asked ≡ record { what = what said; json = false })) }
 {}
 
 /// A heartbeat, written under a token that is accepted for a server and sent from its IP, is read as that

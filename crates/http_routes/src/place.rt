@@ -1,5 +1,6 @@
 //! The place of a request: its method, its path, and the job that the path names.
-ghost use Rattle.std.specs.Prelude.{◌≡◌, option_copied};
+ghost use Rattle.std.specs.Prelude.{◌≡◌, nat_eq, option_copied};
+ghost use Rattle.std.specs.List.{starts_with};
 ghost use Rattle.http_routes.specs.Place.{is_at, stripped, job_in, job_of, state_job, assign_job, submit_job};
 ghost use Rattle.http_routes.specs.Place.{run_job, at_drain};
 
@@ -7,11 +8,22 @@ use crate::request::Request;
 use dist_types::ids::JobId;
 use dist_types::rules::Rules;
 
+/// Whether the request's target begins so. Where it does not, its path need not be looked for.
+fn begins(request: &Request, front: &str) -> bool
+    ensures { result ≡ starts_with nat_eq request.now.target front.now }
+{
+    let target = request.target.get();
+    target.as_bytes().starts_with(front.as_bytes())
+}
+
 /// Whether the request has that method and that path.
-#[tactic(auto, unfolding(crate::specs::Place::is_at))]
+#[tactic(auto, unfolding(crate::specs::Place::is_at), using(crate::proofs::PlaceLemmas::is_elsewhere))]
 pub(crate) fn is_at(request: &Request, method: &str, path: &str) -> bool
     ensures { result ≡ is_at method.now path.now request.now }
 {
+    if !begins(request, path) {
+        return false;
+    }
     if request.method.get() != method {
         return false;
     }
@@ -36,10 +48,13 @@ fn job_in(text: &str) -> Option<JobId>
 }
 
 /// The job that a POST names behind a front.
-#[tactic(auto, unfolding(crate::specs::Place::job_of))]
+#[tactic(auto, unfolding(crate::specs::Place::job_of), using(crate::proofs::PlaceLemmas::names_elsewhere))]
 fn job_of(front: &str, request: &Request) -> Option<JobId>
     ensures { result ≡ job_of front.now request.now }
 {
+    if !begins(request, front) {
+        return None;
+    }
     if request.method.get() != "POST" {
         return None;
     }

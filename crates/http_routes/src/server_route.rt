@@ -154,7 +154,6 @@ pub fn server_asked<A: JobAuthorizer>(
                 body: bytes.len(),
             })
         }
-        Err(HttpError::Memory) => Err(HttpError::Memory),
-        Err(_) => unreachable!(),
+        Err(_) => Err(HttpError::Memory),
     }
 }

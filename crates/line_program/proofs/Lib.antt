@@ -1,3 +1,5 @@
+pub mod FirstFaultyLemmas
 pub mod LinesLemmas
 pub mod PieceLemmas
+pub mod ProgramLemmas
 pub mod ReportLemmas

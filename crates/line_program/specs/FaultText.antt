@@ -6,7 +6,8 @@ use Rattle.line_program.specs.declared.fault.ConfigCause.{ConfigCause}
 use Rattle.line_program.specs.declared.fault.ConfigCause.TheVariants.{Missing, Unreadable, NotToml, Key}
 use Rattle.line_program.specs.declared.fault.FarmFault.{FarmFault}
 use Rattle.line_program.specs.declared.fault.FarmFault.TheVariants.{Usage, BadLine, DuplicateAddress}
-use Rattle.line_program.specs.declared.fault.FarmFault.TheVariants.{ScopedAddress, ReadFault, WriteFault}
+use Rattle.line_program.specs.declared.fault.FarmFault.TheVariants.{ScopedAddress, OverlappingIds}
+use Rattle.line_program.specs.declared.fault.FarmFault.TheVariants.{ReadFault, WriteFault}
 use Rattle.line_program.specs.declared.fault.FarmFault.TheVariants.{BadConfig, ServeFault, Memory, AuditRefused}
 use Rattle.line_program.specs.declared.why.Why.{Why}
 use Rattle.line_program.specs.declared.why.Why.TheVariants.{Text, Core, Build, Books}
@@ -31,6 +32,7 @@ said_text Usage = codes "these words name no command"
 said_text (BadLine n) = codes "bad line " ⧺ decimal n
 said_text (DuplicateAddress n) = codes "duplicate address on line " ⧺ decimal n
 said_text (ScopedAddress n) = codes "scoped address on line " ⧺ decimal n
+said_text (OverlappingIds n) = codes "overlapping ids on line " ⧺ decimal n
 said_text ReadFault = codes "read fault"
 said_text WriteFault = codes "write fault"
 said_text (BadConfig cause) = codes "bad configuration: " ⧺ cause_text cause

@@ -1,8 +1,11 @@
 pub mod FaultText
+pub mod FirstFaulty
 pub mod Input
 pub mod Limits
 pub mod Lines
 pub mod Pieces
+pub mod Program
+pub mod Reader
 pub mod Report
 pub mod Side
 pub mod Texts

@@ -1,9 +1,9 @@
 -- The lines of an input, judged one after the other: what they say, or the first faulty one with its cause.
-use Rattle.std.specs.Prelude.{◌≡◌, ◌⊎◌, ℕ, ◌+◌, ◌-◌, ◌&&◌, nat_le, Bool, if◌then◌else◌, List, [], ◌∷◌, ◌++◌}
-use Rattle.std.specs.Prelude.{length, Result, Ok, Err}
+use Rattle.std.specs.Prelude.{◌≡◌, ℕ, ◌+◌, ◌-◌, ◌&&◌, nat_le, Bool, if◌then◌else◌, List, [], ◌∷◌, length}
+use Rattle.std.specs.Prelude.{Result, Ok, Err}
 use Rattle.line_program.specs.Pieces.{pieces, text_of}
 use Rattle.line_program.specs.declared.fault.FarmFault.{FarmFault}
-use Rattle.line_program.specs.declared.fault.FarmFault.TheVariants.{BadLine}
+use Rattle.line_program.specs.declared.fault.FarmFault.TheVariants.{BadLine, Memory}
 
 -- a line within the limits: its number, its length without its end, and where its last byte stands
 abbrev pub fits : ℕ → ℕ → List ℕ → Bool
@@ -37,19 +37,14 @@ abbrev pub lines_in : {S R : Type 0} → Judge S → (ℕ → S → Result R Far
     → Result R FarmFault
 lines_in judge finish s bytes = lines_from judge finish 1 67108864 s (pieces bytes)
 
--- ---- the first faulty line, in the words of a grammar
+-- ---- what a reader answers
 
--- How a grammar judges a line, behind lines that are done and say this: why it is faulty, what a fine one says,
--- and what an input says that lacks something at its end.
-pub record Grammar (L : Type 0) : Type 1 where
-  pub faulty : List (List ℕ) → List L → List ℕ → FarmFault → Type 0
-  pub fine : List (List ℕ) → List L → List ℕ → L → Type 0
-  pub lacking : List L → Type 0
+-- a fault is the one that reading gives, unless memory ran out
+abbrev pub IsScriptFault : {Y : Type 0} → FarmFault → Result Y FarmFault → Type 0
+IsScriptFault Memory read = Unit {0}
+IsScriptFault f read = read ≡ Err f
 
--- The first fault from here on, behind lines that are done and say this. Where no line is faulty, but what they
--- say lacks something, it is a bad line at the number after the last.
-abbrev pub FirstFaultyFrom : {L : Type 0} → Grammar L → List (List ℕ) → List L → List (List ℕ) → FarmFault
-    → Type 0
-FirstFaultyFrom g done said [] f = g.lacking said × (f ≡ BadLine (length done + 1))
-FirstFaultyFrom {L} g done said (p ∷ ps) f = g.faulty done said p f
-    ⊎ ((l : L) × g.fine done said p l × FirstFaultyFrom g (done ++ p ∷ []) (said ++ l ∷ []) ps f)
+-- What a function returned, seen by view, is what reading a script gives, unless memory ran out.
+abbrev pub IsScriptAnswer : {X Y : Type 0} → (X → Y) → Result X FarmFault → Result Y FarmFault → Type 0
+IsScriptAnswer view (Ok x) read = read ≡ Ok (view x)
+IsScriptAnswer view (Err f) read = IsScriptFault f read

@@ -5,7 +5,8 @@ use Rattle.dist_types.specs.Content.{Added, Began}
 use Rattle.line_program.specs.declared.fault.ConfigCause.TheVariants.{Key}
 use Rattle.line_program.specs.declared.fault.FarmFault.{FarmFault}
 use Rattle.line_program.specs.declared.fault.FarmFault.TheVariants.{Usage, BadLine, DuplicateAddress}
-use Rattle.line_program.specs.declared.fault.FarmFault.TheVariants.{ScopedAddress, ReadFault, WriteFault}
+use Rattle.line_program.specs.declared.fault.FarmFault.TheVariants.{ScopedAddress, OverlappingIds}
+use Rattle.line_program.specs.declared.fault.FarmFault.TheVariants.{ReadFault, WriteFault}
 use Rattle.line_program.specs.declared.fault.FarmFault.TheVariants.{BadConfig, ServeFault, Memory, AuditRefused}
 use Rattle.line_program.specs.FaultText.{said_text}
 use Rattle.line_program.specs.Side.{Side}
@@ -24,6 +25,7 @@ abbrev pub fault_status : FarmFault → ℕ
 fault_status (BadLine n) = 1
 fault_status (DuplicateAddress n) = 1
 fault_status (ScopedAddress n) = 1
+fault_status (OverlappingIds n) = 1
 fault_status Usage = 2
 fault_status Memory = 3
 fault_status ReadFault = 4
@@ -37,6 +39,7 @@ abbrev pub NamesLine : FarmFault → Type 0
 NamesLine (BadLine n) = Unit {0}
 NamesLine (DuplicateAddress n) = Unit {0}
 NamesLine (ScopedAddress n) = Unit {0}
+NamesLine (OverlappingIds n) = Unit {0}
 NamesLine other = ⊥
 
 -- A text was written on errs, and the answer is its status; or errs failed, has a front of it, and the answer
@@ -55,6 +58,7 @@ abbrev pub IsLong : FarmFault → Type 0
 IsLong (BadLine n) = Unit {0}
 IsLong (DuplicateAddress n) = Unit {0}
 IsLong (ScopedAddress n) = Unit {0}
+IsLong (OverlappingIds n) = Unit {0}
 IsLong (BadConfig (Key key)) = Unit {0}
 IsLong (AuditRefused n why) = Unit {0}
 IsLong other = ⊥

@@ -52,6 +52,8 @@ pub enum FarmFault {
     DuplicateAddress(u64),
     /// The first faulty line has this number, and is so for an address with a scope.
     ScopedAddress(u64),
+    /// The first faulty line has this number, and is so for a range of ids that meets an earlier one.
+    OverlappingIds(u64),
     /// The input failed.
     ReadFault,
     /// The output failed.
@@ -78,6 +80,7 @@ impl fmt::Display for FarmFault {
             FarmFault::BadLine(n) => write!(f, "bad line {n}"),
             FarmFault::DuplicateAddress(n) => write!(f, "duplicate address on line {n}"),
             FarmFault::ScopedAddress(n) => write!(f, "scoped address on line {n}"),
+            FarmFault::OverlappingIds(n) => write!(f, "overlapping ids on line {n}"),
             FarmFault::ReadFault => write!(f, "read fault"),
             FarmFault::WriteFault => write!(f, "write fault"),
             FarmFault::BadConfig(cause) => write!(f, "bad configuration: {cause}"),

@@ -5,7 +5,7 @@ use Rattle.std.specs.Str.{bytes_eq}
 use Rattle.folders.specs.Files.{Files, file_at, front, put, moved, PartWritten}
 use Rattle.folders.specs.Files.{DoneOrNot, Same}
 use Rattle.folders.specs.Held.{Held, Holds, Lacks, Never, Became, Changes}
-use Rattle.folders.specs.declared.fault.FolderFault.{FolderFault}
+use Rattle.dist_types.specs.declared.folder_fault.FolderFault.{FolderFault}
 use Rattle.lru_disk_cache.specs.Key.{temp_name}
 use Rattle.lru_disk_cache.specs.Entries.{Entries}
 use Rattle.lru_disk_cache.specs.Disk.{Keeps}
@@ -104,15 +104,18 @@ below_renamed root path from to result old new is one two h =
 
 -- ---- the files are those that they were
 
+pub equal_became : (E : Files → Files → Type 0) (old new : Option Files) → new ≡ old
+    → ((f : Files) → E f f) → Became E old new
+equal_became E old new is same = subst (Became E old) (sym is) (became_same E old same)
+
 pub keeps_equal : (root : List ℕ) (es : Entries) (old new : Option Files) → new ≡ old
     → Became (Keeps root es) old new
-keeps_equal root es old new is = subst (Became (Keeps root es) old) (sym is)
-    (became_same (Keeps root es) old (λ f. kept_none root es f))
+keeps_equal root es old new is = equal_became (Keeps root es) old new is (λ f. kept_none root es f)
 
 pub reserved_equal : (ps : List Reservation) (old new : Option Files) → new ≡ old
     → Became (KeepsReserved ps) old new
-reserved_equal ps old new is = subst (Became (KeepsReserved ps) old) (sym is)
-    (became_same (KeepsReserved ps) old (λ f. reserved_same ps f f (λ q. refl)))
+reserved_equal ps old new is =
+    equal_became (KeepsReserved ps) old new is (λ f. reserved_same ps f f (λ q. refl))
 
 pub store_equal : (d : Disk) (old new : Held) → IsStore old d → new.files ≡ old.files → IsStore new d
 store_equal d old new h is =

@@ -8,8 +8,8 @@ use Rattle.std.specs.Option.{option_map}
 use Rattle.std.specs.Str.{bytes_eq}
 use Rattle.folders.specs.Files.{Files, file_at, put, without, touched, appended}
 use Rattle.folders.specs.Held.{Held, Became, BecameBy}
-use Rattle.lru_disk_cache.specs.Key.{is_key, temp_name}
-use Rattle.lru_disk_cache.specs.Disk.{AllKeys, Avoids, IsTemp, dropped, files_placed, files_stored, stored}
+use Rattle.lru_disk_cache.specs.Key.{is_key, temp_name, insert_name}
+use Rattle.lru_disk_cache.specs.Disk.{AllKeys, Avoids, IsInsertTemp, dropped, files_placed, files_stored, stored}
 use Rattle.lru_disk_cache.specs.Disk.{without_key}
 use Rattle.lru_disk_cache.specs.Reserved.{Reservation, AddEntry, AllReserved, is_of, is_pending}
 use Rattle.lru_disk_cache.specs.Store.{Disk, IsStore, DiskInStep, inserted, looked_up, removed, room_beside}
@@ -19,11 +19,11 @@ use Rattle.lru_disk_cache.specs.Adding.{commit_verdict, committed}
 use Rattle.lru_disk_cache.specs.Moving.{IsSized}
 use Rattle.folders.proofs.Became.{became_from}
 use Rattle.folders.proofs.Exactly.{made_is}
-use Rattle.lru_disk_cache.proofs.Fills.{temp_avoids}
+use Rattle.lru_disk_cache.proofs.Fills.{temp_avoids, temp_avoided}
 use Rattle.lru_disk_cache.proofs.KeySteps.{keys_in, temp_placed, moved_placed, keys_put_other, keys_touched}
 use Rattle.lru_disk_cache.proofs.KeySteps.{keys_prepared, keys_appended, keys_gone, keys_without_other}
 use Rattle.folders.proofs.Lookups.{put_same}
-use Rattle.lru_disk_cache.proofs.Paths.{temp_is_none}
+use Rattle.lru_disk_cache.proofs.Paths.{temp_is_none, insert_is_none}
 use Rattle.lru_disk_cache.proofs.Reserving.{listed_key, own_path}
 use Rattle.lru_disk_cache.proofs.Standing.{found_sized}
 
@@ -37,7 +37,7 @@ made_step f e old new made h files told =
 
 pub step_stored : (d e : Disk) (old new : Held) (key bytes : List ℕ) → AllKeys d.entries → is_key key ≡ true
     → IsDistinct bytes_eq (keys_of d.entries) → e ≡ inserted d key (length bytes)
-    → (temp : List ℕ) × IsTemp d.root temp
+    → (temp : List ℕ) × IsInsertTemp d.root temp
     × BecameBy (files_stored d.root temp (d.root ++ key) bytes
     (dropped (room_beside d (length bytes)) (without_key key d.entries))) old.files new.files
     → DiskInStep old d → DiskInStep new e
@@ -49,10 +49,11 @@ step_stored d e old new key bytes keys fit distinct is exact h =
     subst (DiskInStep new) (sym is) (made_step (files_stored d.root exact.0 (d.root ++ key) bytes gone)
     (inserted d key (length bytes)) old new exact.2 (λ x told.
     ap (λ t. keys_in d.root (files_stored d.root t (d.root ++ key) bytes gone x)) exact.1.2
-    ∙ temp_placed d.root (temp_name m) key bytes limit d.entries (put (d.root ++ temp_name m) bytes x) fit
-    (temp_is_none m below) (temp_avoids d.root (d.root ++ temp_name m) m d.entries below refl keys)
-    (put_same (d.root ++ temp_name m) bytes x) distinct
-    (keys_put_other d.root (temp_name m) bytes x (temp_is_none m below) ∙ h x told)))
+    ∙ temp_placed d.root (insert_name m) key bytes limit d.entries (put (d.root ++ insert_name m) bytes x) fit
+    (insert_is_none m below) (temp_avoided d.root (d.root ++ insert_name m) d.entries
+    (insert_name m, insert_is_none m below, refl) keys)
+    (put_same (d.root ++ insert_name m) bytes x) distinct
+    (keys_put_other d.root (insert_name m) bytes x (insert_is_none m below) ∙ h x told)))
 
 -- a file of a size has bytes of that number
 sized : (o : Option (List ℕ)) (n : ℕ) → option_map length o ≡ Some n → (b : List ℕ) × (o ≡ Some b)

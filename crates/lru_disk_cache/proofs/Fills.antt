@@ -6,7 +6,7 @@ use Rattle.std.specs.Option.{option_map}
 use Rattle.std.specs.Str.{bytes_eq}
 use Rattle.folders.specs.Files.{Files, file_at, size_at, put, PartWritten}
 use Rattle.folders.specs.Held.{Held, Holds, Never, Became, Changes}
-use Rattle.folders.specs.declared.fault.FolderFault.{FolderFault}
+use Rattle.dist_types.specs.declared.folder_fault.FolderFault.{FolderFault}
 use Rattle.folders.proofs.Became.{became_of, became_from, became_map, became_then}
 use Rattle.folders.proofs.Distinct.{apart}
 use Rattle.folders.proofs.Lookups.{put_same, put_other, part_other}
@@ -14,9 +14,9 @@ use Rattle.lru_disk_cache.specs.Key.{is_key, temp_name}
 use Rattle.lru_disk_cache.specs.Entries.{Entries, Listed, IsEnd}
 use Rattle.lru_disk_cache.specs.Disk.{Stands, AllKeys, Avoids, Keeps, ButListed}
 use Rattle.folders.specs.Changed.{ButAt, ButUnder, ButUnderAnd}
-use Rattle.lru_disk_cache.specs.Disk.{ButThese, IsTemp}
+use Rattle.lru_disk_cache.specs.Disk.{ButThese, IsKeyless}
 use Rattle.folders.specs.Changed.{SameAt, Counts}
-use Rattle.lru_disk_cache.proofs.Paths.{same_front, temp_differs}
+use Rattle.lru_disk_cache.proofs.Paths.{same_front, temp_differs, none_differs}
 use Rattle.lru_disk_cache.proofs.Standing.{all_both, avoids_removed, avoids_end, kept_by_same}
 
 -- ---- the temporary file
@@ -148,30 +148,32 @@ left_err root middle new (Err e) one three is kept =
 
 -- ---- the temporary file is written and then takes its place
 
-pub temp_apart : (root path key from : List ℕ) → IsTemp root from → path ≡ root ++ key → is_key key ≡ true
+pub temp_apart : (root path key from : List ℕ) → IsKeyless root from → path ≡ root ++ key → is_key key ≡ true
     → bytes_eq path from ≡ false
 temp_apart root path key from temp is fit =
     (λ i. bytes_eq (is i) (temp.2 i))
-    ∙ (same_front root key (temp_name temp.0) ∙ temp_differs temp.0 key temp.1 fit)
+    ∙ (same_front root key temp.0 ∙ none_differs temp.0 key temp.1 fit)
 
-pub temp_avoided : (root from : List ℕ) (es : Entries) → IsTemp root from → AllKeys es → Avoids root from es
-temp_avoided root from es temp keys = temp_avoids root from temp.0 es temp.1 temp.2 keys
+pub temp_avoided : (root from : List ℕ) (es : Entries) → IsKeyless root from → AllKeys es → Avoids root from es
+temp_avoided root from es temp keys =
+    subst (λ p. Avoids root p es) (sym temp.2)
+    (all_both es keys keys (λ e fit same. same_front root e.0 temp.0 ∙ none_differs temp.0 e.0 temp.1 fit))
 
-pub keeps_temp : (root from : List ℕ) (es : Entries) (old new : Option Files) → IsTemp root from → AllKeys es
+pub keeps_temp : (root from : List ℕ) (es : Entries) (old new : Option Files) → IsKeyless root from → AllKeys es
     → Became (ButAt from) old new → Became (Keeps root es) old new
 keeps_temp root from es old new temp keys others =
     keeps_avoided root from es old new (temp_avoided root from es temp keys) others
 
-pub under_temp : (root from : List ℕ) (old new : Option Files) → IsTemp root from
+pub under_temp : (root from : List ℕ) (old new : Option Files) → IsKeyless root from
     → Became (ButAt from) old new → Became (ButUnder root) old new
-under_temp root from old new temp others = under_at root (temp_name temp.0) from old new temp.2 others
+under_temp root from old new temp others = under_at root temp.0 from old new temp.2 others
 
-pub under_both : (root from : List ℕ) (one two three : Option Files) → IsTemp root from
+pub under_both : (root from : List ℕ) (one two three : Option Files) → IsKeyless root from
     → Became (ButAt from) one two → Became (ButUnderAnd root from) two three
     → Became (ButUnder root) one three
 under_both root from one two three temp a b =
     under_then root one two three (under_temp root from one two temp a)
-    (under_and root (temp_name temp.0) from two three temp.2 b)
+    (under_and root temp.0 from two three temp.2 b)
 
 pub both_keep : (root : List ℕ) (es : Entries) (one two three : Option Files) → Became (Keeps root es) one two
     → Became (Keeps root es) two three → Became (Keeps root es) one three
@@ -185,7 +187,7 @@ keys_before (e ∷ es) x h = (h.0, keys_before es x h.1)
 
 -- what stays keeps its file, also where the temporary one is written first
 pub kept_behind : (root from key : List ℕ) (n : ℕ) (staying : Entries) (table new : Listed)
-    (result : Result (Unit {0}) FolderFault) (one two three : Held) → IsTemp root from
+    (result : Result (Unit {0}) FolderFault) (one two three : Held) → IsKeyless root from
     → OnOk result (new ≡ record table { entries = staying ++ (key, n) ∷ [] }) → Stands root three new.entries
     → Became (ButAt from) one.files two.files
     → OnOk result (Became (Keeps root staying) two.files three.files)
@@ -197,7 +199,7 @@ kept_behind root from key n staying table new (Ok x) one two three temp is stand
 kept_behind root from key n staying table new (Err e) one two three temp is stands others kept = tt
 
 pub left_behind : (root from : List ℕ) (new : Listed) (result : Result (Unit {0}) FolderFault)
-    (one two three : Held) → IsTemp root from → Stands root three new.entries
+    (one two three : Held) → IsKeyless root from → Stands root three new.entries
     → Became (ButAt from) one.files two.files
     → OnErr result (Became (Keeps root new.entries) two.files three.files)
     → OnErr result (Became (Keeps root new.entries) one.files three.files)
@@ -286,53 +288,13 @@ still_found root from bytes es (Ok x) one two avoids others there = λ files tol
 
 -- ---- nothing changed before
 
-pub same_keeps : (root : List ℕ) (es : Entries) (one two : Option Files) → Became SameAt one two
-    → Became (Keeps root es) one two
-same_keeps root es one two h = became_map SameAt (Keeps root es) one two
-    (λ f g same. kept_by_same root es f g same) h
-
-pub same_outside : (root from : List ℕ) (one two : Option Files) → Became SameAt one two
-    → Became (ButUnderAnd root from) one two
-same_outside root from one two h = became_map SameAt (ButUnderAnd root from) one two
-    (λ f g same q away not_from. same q) h
-
-pub same_untouched : (root from path : List ℕ) (es : Entries) (one two : Option Files) → Became SameAt one two
-    → Became (ButThese root from path es) one two
-same_untouched root from path es one two h =
-    became_map SameAt (ButThese root from path es) one two (λ f g same q not_from not_path avoids. same q) h
-
-pub same_sized : (from : List ℕ) (n : ℕ) (one two : Held) → Became SameAt one.files two.files
-    → Holds one (λ f. size_at f from ≡ Some n) → Holds two (λ f. size_at f from ≡ Some n)
-same_sized from n one two same sized files told =
-    let w = became_from SameAt one.files two.files files same told in
-    ap (option_map length) (w.2 from) ∙ sized w.0 w.1
-
-pub same_content : (from path : List ℕ) (result : Result (Unit {0}) FolderFault)
-    (one two three : Option Files) → Became SameAt one two
-    → OnOk result (Became (λ f g. file_at g path ≡ file_at f from) two three)
-    → OnOk result (Became (λ f g. file_at g path ≡ file_at f from) one three)
-same_content from path (Err e) one two three same h = tt
-same_content from path (Ok x) one two three same h =
-    became_then SameAt (λ f g. file_at g path ≡ file_at f from) (λ f g. file_at g path ≡ file_at f from) one
-    two three (λ f g k a b. b ∙ a from) same h
-
-pub same_kept : (root : List ℕ) (es : Entries) (result : Result (Unit {0}) FolderFault)
-    (one two three : Option Files) → Became SameAt one two → OnOk result (Became (Keeps root es) two three)
-    → OnOk result (Became (Keeps root es) one three)
-same_kept root es (Err e) one two three same h = tt
-same_kept root es (Ok x) one two three same h = both_keep root es one two three
-    (same_keeps root es one two same) h
-
-pub same_left : (root : List ℕ) (es : Entries) (result : Result (Unit {0}) FolderFault)
-    (one two three : Option Files) → Became SameAt one two → OnErr result (Became (Keeps root es) two three)
-    → OnErr result (Became (Keeps root es) one three)
-same_left root es (Ok x) one two three same h = tt
-same_left root es (Err e) one two three same h = both_keep root es one two three
-    (same_keeps root es one two same) h
-
 pub on_ok : {T E P : Type 0} (result : Result T E) → P → OnOk result P
 on_ok (Ok x) p = p
 on_ok (Err e) p = tt
+
+pub on_ok_then : {T E P Q : Type 0} (result : Result T E) → OnOk result P → (P → Q) → OnOk result Q
+on_ok_then (Ok x) p more = more p
+on_ok_then (Err e) p more = tt
 
 -- what holds of the files holds where they are the same
 pub if_same : {T E : Type 0} (P : T → Files → Type 0) (result : Result T E) (old new : Held)

@@ -1,4 +1,5 @@
 pub mod Asides
+pub mod Counted
 pub mod DiskSteps
 pub mod Fills
 pub mod Insides
@@ -19,6 +20,7 @@ pub mod Reopening
 pub mod Reserving
 pub mod Sorting
 pub mod Spared
+pub mod Spoiled
 pub mod Standing
 pub mod Stores
 pub mod Strips

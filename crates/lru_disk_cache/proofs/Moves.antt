@@ -2,18 +2,19 @@
 use Rattle.std.proofs.Common.{◌≡◌, ◌+◌, ℕ, Bool, true, false, not, nat_lt, if◌then◌else◌, List, length, is_ok}
 use Rattle.std.proofs.Common.{true≢false, ap, Result, Ok, Err, IfErr, OnOk, inl, inr, refl}
 use Rattle.folders.specs.Held.{Held, Lacks}
-use Rattle.folders.specs.declared.fault.FolderFault.TheVariants.{Missing, Failed, Memory}
-use Rattle.lru_disk_cache.specs.declared.error.Error.{Error}
-use Rattle.lru_disk_cache.specs.declared.error.Error.TheVariants.{FileTooLarge, FileNotInCache, Io}
-use Rattle.lru_disk_cache.specs.declared.error.Error.TheVariants.{PendingSpace, BadKey, NotPending}
-use Rattle.lru_disk_cache.specs.declared.error.Error.TheVariants.{WrongDigest, WriterRefused}
-use Rattle.lru_disk_cache.specs.declared.error.Error.TheVariants.{Memory as NoMemory}
+use Rattle.dist_types.specs.declared.folder_fault.FolderFault.TheVariants.{Missing, Failed, Memory}
+use Rattle.dist_types.specs.declared.cache_error.Error.{Error}
+use Rattle.dist_types.specs.declared.cache_error.Error.TheVariants.{FileTooLarge, FileNotInCache, Io}
+use Rattle.dist_types.specs.declared.cache_error.Error.TheVariants.{PendingSpace, BadKey, NotPending}
+use Rattle.dist_types.specs.declared.cache_error.Error.TheVariants.{WrongDigest, WriterRefused}
+use Rattle.dist_types.specs.declared.cache_error.Error.TheVariants.{Memory as NoMemory}
 use Rattle.lru_disk_cache.specs.declared.error.WriteFault.{WriteFault}
 use Rattle.lru_disk_cache.specs.Store.{Disk, insert_verdict, InsertFails}
 use Rattle.lru_disk_cache.specs.Key.{is_key}
 use Rattle.lru_disk_cache.specs.Reserved.{held_size}
 use Rattle.lru_disk_cache.specs.Adding.{CallFails}
 use Rattle.lru_disk_cache.specs.Moving.{MoveFails, WriterFails, WithFails}
+use Rattle.lru_disk_cache.specs.Spoiling.{MaySpoil}
 
 -- where the file that is to be moved is not measured
 pub move_failed : (key path : List ℕ) (d e : Disk) (error : Error) (old new : Held) → e ≡ d
@@ -51,17 +52,18 @@ bad_key key size d h = by (is_key key) refl h
 
 module _ (wrote : Result (Unit {0}) WriteFault → List ℕ → Type 0) where
   -- where the closure wrote nothing
-  pub with_failed : (key : List ℕ) (d : Disk) (error : Error) (old : Held) → is_key key ≡ true
-      → WriterFails wrote error → WithFails wrote key error d d old old
-  with_failed key d WriterRefused old fit h = (refl, refl, h, fit)
-  with_failed key d NoMemory old fit h = inl (refl, refl, fit)
-  with_failed key d BadKey old fit h = absurd h
-  with_failed key d FileTooLarge old fit h = absurd h
-  with_failed key d FileNotInCache old fit h = absurd h
-  with_failed key d (Io fault) old fit h = absurd h
-  with_failed key d PendingSpace old fit h = absurd h
-  with_failed key d NotPending old fit h = absurd h
-  with_failed key d WrongDigest old fit h = absurd h
+  pub with_failed : (key : List ℕ) (d : Disk) (error : Error) (spoiled : ℕ) (old : Held) → is_key key ≡ true
+      → WriterFails wrote error
+      → WithFails wrote key error d d old old × MaySpoil error spoiled spoiled old old
+  with_failed key d WriterRefused spoiled old fit h = ((refl, refl, h, fit), (refl, refl))
+  with_failed key d NoMemory spoiled old fit h = (inl (refl, refl, fit), inr (refl, refl))
+  with_failed key d BadKey spoiled old fit h = absurd h
+  with_failed key d FileTooLarge spoiled old fit h = absurd h
+  with_failed key d FileNotInCache spoiled old fit h = absurd h
+  with_failed key d (Io fault) spoiled old fit h = absurd h
+  with_failed key d PendingSpace spoiled old fit h = absurd h
+  with_failed key d NotPending spoiled old fit h = absurd h
+  with_failed key d WrongDigest spoiled old fit h = absurd h
 
   -- and where what it wrote is not stored
   pub with_fails : (key bytes : List ℕ) (d e : Disk) (result : Result (Unit {0}) Error) (old new : Held)

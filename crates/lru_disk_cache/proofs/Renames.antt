@@ -8,8 +8,8 @@ use Rattle.std.specs.Str.{bytes_eq}
 use Rattle.std.proofs.lemmas.Map.{none_passes_from_lookup}
 use Rattle.folders.specs.Files.{size_at, Files, file_at, moved, DoneOrNot}
 use Rattle.folders.specs.Held.{Held, Holds, Lacks, Became, Changes}
-use Rattle.folders.specs.declared.fault.FolderFault.{FolderFault}
-use Rattle.folders.specs.declared.fault.FolderFault.TheVariants.{Missing, Failed, Memory}
+use Rattle.dist_types.specs.declared.folder_fault.FolderFault.{FolderFault}
+use Rattle.dist_types.specs.declared.folder_fault.FolderFault.TheVariants.{Missing, Failed, Memory}
 use Rattle.folders.proofs.Became.{became_of, became_from, became_map}
 use Rattle.folders.proofs.Distinct.{apart}
 use Rattle.folders.proofs.Lookups.{moved_other, moved_there, done_or_not}
@@ -118,60 +118,39 @@ module _ (root key from : List ℕ) (n : ℕ) (es : Entries) (old new : Held) wh
         (ap (option_map length) w.2 ∙ sized w.0 w.1);
   }
 
-  at_paths : (result : Result (Unit {0}) FolderFault) → is_key key ≡ true → Avoids root from es
-      → lookup (bytes_eq key) es ≡ None → Stands root old es → Holds old (λ f. size_at f from ≡ Some n)
+  made : (result : Result (Unit {0}) FolderFault) → Avoids root from es → lookup (bytes_eq key) es ≡ None
+      → Stands root old es
       → Changes (Lacks from) (moved from (root ++ key)) (DoneOrNot (moved from (root ++ key))) result old new
+      → Counts result old new → OnOk result (Became (Carried from (root ++ key)) old.files new.files)
+      → (Stands root new es → OnOk result (Stands root new (es ++ (key, n) ∷ [])))
       → Renamed root key from n es result old new
-  at_paths (Ok x) fit avoids absent h sized is =
-      let others = renamed_others from (root ++ key) (Ok x) old new is in
+  made result avoids absent h is counts content pushed =
+      let others = renamed_others from (root ++ key) result old new is in
       let keeps = keeping avoids absent others in
       let stands = standing h keeps in
-      let content = carried_if old.files new.files from (root ++ key) (ap (λ k. k.files) is.0) is.1 in
       record {
         stands = stands;
         others = outside others;
         untouched = these others;
         keeps = keeps;
-        counts = ap (λ k. k.faults) is.0;
+        counts = counts;
         content = content;
-        pushed = placed fit stands sized content;
+        pushed = pushed stands;
       }
+
+  at_paths : (result : Result (Unit {0}) FolderFault) → is_key key ≡ true → Avoids root from es
+      → lookup (bytes_eq key) es ≡ None → Stands root old es → Holds old (λ f. size_at f from ≡ Some n)
+      → Changes (Lacks from) (moved from (root ++ key)) (DoneOrNot (moved from (root ++ key))) result old new
+      → Renamed root key from n es result old new
+  at_paths (Ok x) fit avoids absent h sized is =
+      let content = carried_if old.files new.files from (root ++ key) (ap (λ k. k.files) is.0) is.1 in
+      made (Ok x) avoids absent h is (ap (λ k. k.faults) is.0) content (λ s. placed fit s sized content)
   at_paths (Err Missing) fit avoids absent h sized is =
-      let others = renamed_others from (root ++ key) (Err Missing) old new is in
-      let keeps = keeping avoids absent others in
-      record {
-        stands = standing h keeps;
-        others = outside others;
-        untouched = these others;
-        keeps = keeps;
-        counts = (not_told old.files from n sized is.1, le_same (ap (λ k. k.faults) is.0));
-        content = tt;
-        pushed = tt;
-      }
+      made (Err Missing) avoids absent h is
+      (not_told old.files from n sized is.1, le_same (ap (λ k. k.faults) is.0)) tt (λ s. tt)
   at_paths (Err Failed) fit avoids absent h sized is =
-      let others = renamed_others from (root ++ key) (Err Failed) old new is in
-      let keeps = keeping avoids absent others in
-      record {
-        stands = standing h keeps;
-        others = outside others;
-        untouched = these others;
-        keeps = keeps;
-        counts = (is.1, is.2);
-        content = tt;
-        pushed = tt;
-      }
-  at_paths (Err Memory) fit avoids absent h sized is =
-      let others = renamed_others from (root ++ key) (Err Memory) old new is in
-      let keeps = keeping avoids absent others in
-      record {
-        stands = standing h keeps;
-        others = outside others;
-        untouched = these others;
-        keeps = keeps;
-        counts = is.1;
-        content = tt;
-        pushed = tt;
-      }
+      made (Err Failed) avoids absent h is (is.1, is.2) tt (λ s. tt)
+  at_paths (Err Memory) fit avoids absent h sized is = made (Err Memory) avoids absent h is is.1 tt (λ s. tt)
 
   -- a rename of a file to the path of a key that is not listed
   pub renamed : (source to : List ℕ) (result : Result (Unit {0}) FolderFault) → source ≡ from

@@ -12,14 +12,15 @@ use Rattle.std.specs.Option.{option_map}
 use Rattle.std.specs.Str.{bytes_eq}
 use Rattle.folders.specs.Files.{Files, file_at, front, put_found, appended, PartAppended, Same}
 use Rattle.folders.specs.Held.{Held, Holds, Lacks, Became, Changes}
-use Rattle.folders.specs.declared.fault.FolderFault.{FolderFault}
-use Rattle.folders.specs.declared.fault.FolderFault.TheVariants.{Missing, Failed, Memory}
-use Rattle.lru_disk_cache.specs.declared.error.Error.{Error}
-use Rattle.lru_disk_cache.specs.declared.error.Error.TheVariants.{FileTooLarge, FileNotInCache, Io}
-use Rattle.lru_disk_cache.specs.declared.error.Error.TheVariants.{PendingSpace, BadKey, NotPending}
-use Rattle.lru_disk_cache.specs.declared.error.Error.TheVariants.{WrongDigest, WriterRefused}
-use Rattle.lru_disk_cache.specs.declared.error.Error.TheVariants.{Memory as NoMemory}
+use Rattle.dist_types.specs.declared.folder_fault.FolderFault.{FolderFault}
+use Rattle.dist_types.specs.declared.folder_fault.FolderFault.TheVariants.{Missing, Failed, Memory}
+use Rattle.dist_types.specs.declared.cache_error.Error.{Error}
+use Rattle.dist_types.specs.declared.cache_error.Error.TheVariants.{FileTooLarge, FileNotInCache, Io}
+use Rattle.dist_types.specs.declared.cache_error.Error.TheVariants.{PendingSpace, BadKey, NotPending}
+use Rattle.dist_types.specs.declared.cache_error.Error.TheVariants.{WrongDigest, WriterRefused}
+use Rattle.dist_types.specs.declared.cache_error.Error.TheVariants.{Memory as NoMemory}
 use Rattle.lru_disk_cache.specs.Key.{is_key, is_temporary, last_behind, names_temporary, temp_name}
+use Rattle.lru_disk_cache.specs.Key.{insert_name}
 use Rattle.lru_disk_cache.specs.Entries.{Entries}
 use Rattle.lru_disk_cache.specs.Disk.{AllKeys, ButThese}
 use Rattle.folders.specs.Changed.{ButAt, Counts}
@@ -34,6 +35,8 @@ use Rattle.folders.proofs.Became.{became_map, became_of, became_same}
 use Rattle.lru_disk_cache.proofs.Fills.{temp_avoids, keeps_avoided, stands_kept}
 use Rattle.folders.proofs.Lookups.{put_same, put_other}
 use Rattle.lru_disk_cache.proofs.Paths.{same_front, temp_differs, temps_differ, temp_split, begins_so}
+use Rattle.lru_disk_cache.proofs.Paths.{kinds_differ}
+use Rattle.folders.proofs.Distinct.{apart}
 
 -- ---- the path of a temporary file is none else
 
@@ -89,6 +92,28 @@ module _ (root from path key : List ℕ) (es : Entries) (n : ℕ) (f g : Files) 
         but r.temp (ap (λ p. bytes_eq p r.temp) from_is ∙ number_apart root n r below two.0 all.0),
         at_each rs from_is below two.1 all.1 but,
       )
+
+insert_each : (root from path key : List ℕ) (es : Entries) (n : ℕ) (f g : Files) (ps : List Reservation)
+    → from ≡ root ++ insert_name n → path ≡ root ++ key → is_key key ≡ true → AllKeys es → AllReserved root ps
+    → ButThese root from path es f g → KeepsReserved ps f g
+insert_each root from path key es n f g [] from_is path_is fit keys all but = tt
+insert_each root from path key es n f g (r ∷ rs) from_is path_is fit keys all but = (
+  but r.temp
+      (ap (λ p. bytes_eq p r.temp) from_is ∙ (ap (bytes_eq (root ++ insert_name n)) all.0.temp
+      ∙ apart (root ++ temp_name r.number) (root ++ insert_name n) (kinds_differ root r.number n all.0.number)))
+      (ap (λ p. bytes_eq p r.temp) path_is ∙ key_apart root key r fit all.0)
+      (temp_avoids root r.temp r.number es all.0.number all.0.temp keys),
+  insert_each root from path key es n f g rs from_is path_is fit keys all.1 but,
+)
+
+-- an insert keeps the reservations' files
+pub insert_reserved : (root from path key : List ℕ) (es : Entries) (n : ℕ) (ps : List Reservation)
+    (old new : Option Files) → from ≡ root ++ insert_name n → path ≡ root ++ key → is_key key ≡ true
+    → AllKeys es → AllReserved root ps → Became (ButThese root from path es) old new
+    → Became (KeepsReserved ps) old new
+insert_reserved root from path key es n ps old new from_is path_is fit keys all but =
+    became_map (ButThese root from path es) (KeepsReserved ps) old new
+    (λ f g h. insert_each root from path key es n f g ps from_is path_is fit keys all h) but
 
 -- so a step that takes another path keeps the reservations' files
 pub these_reserved : (root from path key : List ℕ) (es : Entries) (n : ℕ) (ps : List Reservation)
@@ -455,7 +480,7 @@ added_store d path n old new h is below but stays = record {
 
 -- ---- a path whose last part is no temporary file's
 
-cut : (xs t : List ℕ) → (first : List ℕ) × (more : List (List ℕ))
+pub cut : (xs t : List ℕ) → (first : List ℕ) × (more : List (List ℕ))
     × (slice_split (λ b. b == 47) (xs ++ 47 ∷ t) ≡ first ∷ (more ++ slice_split (λ b. b == 47) t))
 cut [] t = ([], [], slice_split-cons_yes (λ b. b == 47) 47 t refl)
 cut (x ∷ xs) t = by (x == 47) refl (cut xs t)
@@ -477,7 +502,7 @@ cut (x ∷ xs) t = by (x == 47) refl (cut xs t)
           ∙ ap (onto_first x) w.2,
     )
 
-last_is : (part : List ℕ) (more : List (List ℕ)) (t : List ℕ) → last_behind part (more ++ t ∷ []) ≡ t
+pub last_is : (part : List ℕ) (more : List (List ℕ)) (t : List ℕ) → last_behind part (more ++ t ∷ []) ≡ t
 last_is part [] t = refl
 last_is part (m ∷ ms) t = last_is m ms t
 

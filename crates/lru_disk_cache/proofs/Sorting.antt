@@ -11,7 +11,7 @@ use Rattle.std.specs.Str.{bytes_eq}
 use Rattle.folders.specs.Files.{without}
 use Rattle.folders.specs.Held.{Held, Became}
 use Rattle.folders.specs.declared.folder.Found.{Found}
-use Rattle.folders.specs.declared.fault.FolderFault.{FolderFault}
+use Rattle.dist_types.specs.declared.folder_fault.FolderFault.{FolderFault}
 use Rattle.lru_disk_cache.specs.Key.{is_key}
 use Rattle.lru_disk_cache.specs.Entries.{Entries, Listed, total, sizes, trim}
 use Rattle.lru_disk_cache.specs.Disk.{AllKeys}

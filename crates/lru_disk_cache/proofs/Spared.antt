@@ -4,9 +4,9 @@ use Rattle.std.specs.Str.{bytes_eq}
 use Rattle.std.proofs.lemmas.Slice.Eq.{bytes_eq-Decides}
 use Rattle.folders.specs.Files.{Files, moved, DoneOrNot}
 use Rattle.folders.specs.Held.{Held, Lacks, Became, Changes}
-use Rattle.folders.specs.declared.fault.FolderFault.{FolderFault}
+use Rattle.dist_types.specs.declared.folder_fault.FolderFault.{FolderFault}
 use Rattle.folders.specs.Changed.{OnlyRemoved, RemovedAt, ButAt, SameAt}
-use Rattle.lru_disk_cache.specs.Disk.{IsTemp}
+use Rattle.lru_disk_cache.specs.Disk.{IsTemp, IsInsertTemp}
 use Rattle.folders.specs.Changed.{RemovedOrSame, IsNeither}
 use Rattle.lru_disk_cache.specs.Disk.{IsNoTemp, IsBeside}
 use Rattle.folders.proofs.Became.{became_of, became_map, became_same, became_then}
@@ -65,12 +65,19 @@ no_temp root from q temp none = by (bytes_eq from q) refl
     by false other = refl
     by true same = absurd (none (subst (IsTemp root) ((bytes_eq-Decides from q).0 same) temp))
 
-pub beside_temp : (root from path at : List ℕ) (old new : Option Files) → IsTemp root from → path ≡ at
+no_insert : (root from q : List ℕ) → IsInsertTemp root from → ¬ (IsInsertTemp root q) → bytes_eq from q ≡ false
+no_insert root from q temp none = by (bytes_eq from q) refl
+  where
+    by : (b : Bool) → bytes_eq from q ≡ b → b ≡ false
+    by false other = refl
+    by true same = absurd (none (subst (IsInsertTemp root) ((bytes_eq-Decides from q).0 same) temp))
+
+pub beside_temp : (root from path at : List ℕ) (old new : Option Files) → IsInsertTemp root from → path ≡ at
     → Became (RemovedOrSame (IsNeither from path)) old new → Became (RemovedOrSame (IsBeside root at)) old new
 beside_temp root from path at old new temp is h =
     subst (λ p. Became (RemovedOrSame (IsBeside root p)) old new) is
     (became_map (RemovedOrSame (IsNeither from path)) (RemovedOrSame (IsBeside root path)) old new
-    (λ f g some q b beside found. some q b (no_temp root from q temp beside.0, beside.1) found) h)
+    (λ f g some q b beside found. some q b (no_insert root from q temp beside.0, beside.1) found) h)
 
 pub but_temps : (root from : List ℕ) (old new : Option Files) → IsTemp root from
     → Became (RemovedOrSame (IsNeither from from)) old new → Became (RemovedOrSame (IsNoTemp root)) old new

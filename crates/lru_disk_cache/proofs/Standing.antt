@@ -139,8 +139,8 @@ pub kept_by_same : (root : List ℕ) (es : Entries) (f g : Files) → SameAt f g
 kept_by_same root [] f g same = tt
 kept_by_same root (e ∷ es) f g same = (same (root ++ e.0), kept_by_same root es f g same)
 
-pub none_lost : (root : List ℕ) (es : Entries) (held : Held) → Became (Keeps root es) held.files held.files
-none_lost root es held = became_same (Keeps root es) held.files (λ f. kept_none root es f)
+pub none_lost : (root : List ℕ) (es : Entries) (o : Option Files) → Became (Keeps root es) o o
+none_lost root es o = became_same (Keeps root es) o (λ f. kept_none root es f)
 
 -- what all entries keep an end of them keeps
 pub keeps_end : (root : List ℕ) (es rest : Entries) (f g : Files) → IsEnd rest es → Keeps root es f g

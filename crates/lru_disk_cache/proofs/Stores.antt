@@ -8,9 +8,9 @@ use Rattle.std.specs.Str.{bytes_eq}
 use Rattle.lru_metered.proofs.Lookups.{size-others, total-promoted}
 use Rattle.folders.specs.Files.{file_at}
 use Rattle.folders.specs.Held.{Held, Holds, Became, BecameBy}
-use Rattle.folders.specs.declared.fault.FolderFault.{FolderFault}
+use Rattle.dist_types.specs.declared.folder_fault.FolderFault.{FolderFault}
 use Rattle.lru_disk_cache.specs.Entries.{Entries, Listed, total, sizes, promoted_key, IsEnd}
-use Rattle.lru_disk_cache.specs.Disk.{Stands, IsTemp, Left, staying, stored, dropped}
+use Rattle.lru_disk_cache.specs.Disk.{Stands, IsInsertTemp, Left, staying, stored, dropped}
 use Rattle.folders.specs.Changed.{ButAt, SameAt}
 use Rattle.lru_disk_cache.specs.Disk.{files_stored, without_key}
 use Rattle.lru_disk_cache.specs.Key.{is_key, temp_name}
@@ -37,20 +37,29 @@ module _ (path root : List ℕ) (pending : List Reservation) where
     pending = pending;
   }
 
+  -- the reservations' files and what they take are as they were
+  relisted : (old new : Held) (table now : Listed) → IsStore old (disk_of table) → Stands root new now.entries
+      → total now.entries + held_size pending ≤ now.capacity → Became (KeepsReserved pending) old.files new.files
+      → IsStore new (disk_of now)
+  relisted old new table now h stands fits temps = record {
+    stands = stands;
+    root = h.root;
+    reserved = h.reserved;
+    numbers = h.numbers;
+    sure = sure_kept pending old new h.sure temps;
+    fits = fits;
+  }
+
   pub promoted_store : (old new : Held) (key : List ℕ) (table now : Listed) → IsStore old (disk_of table)
       → now ≡ record table { entries = promoted_key key table.entries } → Became SameAt old.files new.files
       → IsStore new (disk_of now)
   promoted_store old new key table now h is same =
       subst (λ t. IsStore new (disk_of t)) (sym is)
-      (record {
-        stands = stands_promoted root old new key table.entries h.stands same;
-        root = h.root;
-        reserved = h.reserved;
-        numbers = h.numbers;
-        sure = sure_kept pending old new h.sure (became_map SameAt (KeepsReserved pending) old.files new.files
-            (λ f g at. reserved_same pending f g at) same);
-        fits = omega (arith, h.fits, total-promoted (bytes_eq key) sizes table.entries);
-      })
+      (relisted old new table (record table { entries = promoted_key key table.entries }) h
+      (stands_promoted root old new key table.entries h.stands same)
+      (omega (arith, h.fits, total-promoted (bytes_eq key) sizes table.entries))
+      (became_map SameAt (KeepsReserved pending) old.files new.files
+      (λ f g at. reserved_same pending f g at) same))
 
   pub removed_store : (old new : Held) (key : List ℕ) (table now : Listed) → IsStore old (disk_of table)
       → is_some (lookup (bytes_eq key) table.entries) ≡ true
@@ -60,18 +69,13 @@ module _ (path root : List ℕ) (pending : List Reservation) where
   removed_store old new key table now h listed is absent others =
       let E = ap (λ (t : Listed). t.entries) is in
       subst (λ t. IsStore new (disk_of t)) (sym is)
-      (record {
-        stands = stands_absent root key (remove_entry (bytes_eq key) table.entries) old new
-            (ap (lookup (bytes_eq key)) (sym E) ∙ absent)
-            (stands_removed root old (bytes_eq key) table.entries h.stands) others;
-        root = h.root;
-        reserved = h.reserved;
-        numbers = h.numbers;
-        sure = sure_kept pending old new h.sure
-            (key_reserved root key pending old.files new.files
-            (listed_key key table.entries h.stands.keys listed) h.reserved others);
-        fits = omega (arith, h.fits, size-others (bytes_eq key) sizes table.entries);
-      })
+      (relisted old new table (record table { entries = remove_entry (bytes_eq key) table.entries }) h
+      (stands_absent root key (remove_entry (bytes_eq key) table.entries) old new
+      (ap (lookup (bytes_eq key)) (sym E) ∙ absent)
+      (stands_removed root old (bytes_eq key) table.entries h.stands) others)
+      (omega (arith, h.fits, size-others (bytes_eq key) sizes table.entries))
+      (key_reserved root key pending old.files new.files (listed_key key table.entries h.stands.keys listed)
+      h.reserved others))
 
   -- what is left of a list is no more than it was
   end_total : (all rest : Entries) → IsEnd rest all → total rest ≤ total all
@@ -101,41 +105,20 @@ module _ (path root : List ℕ) (pending : List Reservation) where
       → Stands root new now.entries → Became (KeepsReserved pending) old.files new.files
       → IsStore new (disk_of now)
   insert_store new old key n limit table now (Ok x) h room ok err stands temps =
-      record {
-        stands = stands;
-        root = h.root;
-        reserved = h.reserved;
-        numbers = h.numbers;
-        sure = sure_kept pending old new h.sure temps;
-        fits =
-            subst (λ (t : Listed). total t.entries + held_size pending ≤ t.capacity) (sym ok)
-            (stored_fits key n limit table.capacity table.entries room);
-      }
+      relisted old new table now h stands
+      (subst (λ (t : Listed). total t.entries + held_size pending ≤ t.capacity) (sym ok)
+      (stored_fits key n limit table.capacity table.entries room)) temps
   insert_store new old key n limit table now (Err e) h room ok err stands temps =
-      record {
-        stands = stands;
-        root = h.root;
-        reserved = h.reserved;
-        numbers = h.numbers;
-        sure = sure_kept pending old new h.sure temps;
-        fits =
-            omega (arith, h.fits, err.0, left_total key limit table.entries now.entries err.1);
-      }
+      relisted old new table now h stands
+      (omega (arith, h.fits, err.0, left_total key limit table.entries now.entries err.1)) temps
 
   -- where an entry is announced, and where that fails
   pub announced_store : (new old : Held) (table now : Listed) → IsStore old (disk_of table)
       → now.capacity ≡ table.capacity → IsEnd now.entries table.entries → Stands root new now.entries
       → Became (KeepsReserved pending) old.files new.files → IsStore new (disk_of now)
   announced_store new old table now h capacity end stands temps =
-      record {
-        stands = stands;
-        root = h.root;
-        reserved = h.reserved;
-        numbers = h.numbers;
-        sure = sure_kept pending old new h.sure temps;
-        fits =
-            omega (arith, h.fits, capacity, end_total table.entries now.entries end);
-      }
+      relisted old new table now h stands
+      (omega (arith, h.fits, capacity, end_total table.entries now.entries end)) temps
 
 sure_more : (pending : List Reservation) (r : Reservation) (held : Held) → Holds held (λ f. AllSure f pending)
     → Holds held (λ f. file_at f r.temp ≡ Some []) → Holds held (λ f. AllSure f (pending ++ r ∷ []))
@@ -209,22 +192,22 @@ broken_store path root pending now_pending n limit key old new table now h is le
     })
 
 -- the files behind an insert, said of the cache as it was
-pub stored_exact : {F : Type 0} (held : F → Held) (folder : F) (d : Disk) (now : Store F) (new : Held)
+pub stored_exact : {F : Type 0} (held : F → Held) (folder : F) (d : Disk) (spoiled : ℕ) (now : Store F) (new : Held)
     (from path own key bytes : List ℕ) (limit : ℕ)
-    → (let whole : Store F = record { disk = d; folder = folder } in whole ≡ now) → IsTemp d.root from
+    → (let whole : Store F = record { disk = d; folder = folder; spoiled = spoiled } in whole ≡ now) → IsInsertTemp d.root from
     → path ≡ d.root ++ key → own ≡ key → limit ≡ room_beside now.disk (length bytes)
     → BecameBy (files_stored d.root from path bytes (dropped limit (without_key own d.entries)))
     (held folder).files new.files
-    → (temp : List ℕ) × IsTemp now.disk.root temp
+    → (temp : List ℕ) × IsInsertTemp now.disk.root temp
     × BecameBy (files_stored now.disk.root temp (now.disk.root ++ key) bytes
     (dropped (room_beside now.disk (length bytes)) (without_key key now.disk.entries)))
     (held now.folder).files new.files
-stored_exact {F} held folder d now new from path own key bytes limit view temp path_is own_is limit_is made =
+stored_exact {F} held folder d spoiled now new from path own key bytes limit view temp path_is own_is limit_is made =
     let P : List ℕ → List ℕ → ℕ → Type 0 = λ p k n.
     BecameBy (files_stored d.root from p bytes (dropped n (without_key k d.entries)))
     (held folder).files new.files in
     let Q : Store F → Type 0 = λ s. limit ≡ room_beside s.disk (length bytes)
-    → (temp : List ℕ) × IsTemp s.disk.root temp
+    → (temp : List ℕ) × IsInsertTemp s.disk.root temp
     × BecameBy (files_stored s.disk.root temp (s.disk.root ++ key) bytes
     (dropped (room_beside s.disk (length bytes)) (without_key key s.disk.entries)))
     (held s.folder).files new.files in

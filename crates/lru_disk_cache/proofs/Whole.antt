@@ -6,7 +6,7 @@ use Rattle.std.specs.Str.{bytes_eq}
 use Rattle.std.proofs.lemmas.Map.{none_passes_from_lookup}
 use Rattle.folders.specs.Files.{Files, file_at, put_found, without, moved, DoneOrNot}
 use Rattle.folders.specs.Held.{Held, Holds, Lacks, Became, Changes}
-use Rattle.folders.specs.declared.fault.FolderFault.{FolderFault}
+use Rattle.dist_types.specs.declared.folder_fault.FolderFault.{FolderFault}
 use Rattle.lru_disk_cache.specs.Entries.{Entries}
 use Rattle.lru_disk_cache.specs.Disk.{Avoids, ButListed}
 use Rattle.folders.specs.Changed.{ButAt, SameAt}
@@ -16,11 +16,6 @@ use Rattle.folders.proofs.Distinct.{apart}
 use Rattle.folders.proofs.Lookups.{moved_there, put_other, without_same}
 use Rattle.lru_disk_cache.proofs.Paths.{same_front}
 use Rattle.lru_disk_cache.proofs.Standing.{all_both}
-
-pub same_moved : (from path : List ℕ) (old new : Option Files) → Became SameAt old new
-    → Became (OldOrMoved from path) old new
-same_moved from path old new h =
-    became_map SameAt (OldOrMoved from path) old new (λ f g same. inl (same path, same from)) h
 
 -- ---- a file is renamed
 
@@ -61,12 +56,6 @@ behind from path f g h at_path at_from whole =
       | inl same ↦ inl (same.0 ∙ at_path, same.1 ∙ at_from)
       | inr w ↦ inr (w.0, sym at_from ∙ w.1, w.2, w.3)
     ]
-
-pub same_then_moved : (from path : List ℕ) (one two three : Option Files) → Became SameAt one two
-    → Became (OldOrMoved from path) two three → Became (OldOrMoved from path) one three
-same_then_moved from path one two three a b =
-    became_then SameAt (OldOrMoved from path) (OldOrMoved from path) one two three
-    (λ f g h same whole. behind from path f g h (same path) (same from) whole) a b
 
 absent_avoids : (root key : List ℕ) (es : Entries) → lookup (bytes_eq key) es ≡ None
     → Avoids root (root ++ key) es

@@ -4,19 +4,20 @@ use Rattle.std.specs.Prelude.{None, Option, Some, Result, Ok, Err}
 use Rattle.dist_types.specs.Cause.{Rose}
 use Rattle.folders.specs.Files.{Files, size_at, put}
 use Rattle.folders.specs.Held.{Held, Holds, Lacks}
-use Rattle.folders.specs.declared.fault.FolderFault.{FolderFault}
-use Rattle.folders.specs.declared.fault.FolderFault.TheVariants.{Missing, Failed, Memory}
-use Rattle.lru_disk_cache.specs.declared.error.Error.{Error}
-use Rattle.lru_disk_cache.specs.declared.error.Error.TheVariants.{FileTooLarge, FileNotInCache, Io}
-use Rattle.lru_disk_cache.specs.declared.error.Error.TheVariants.{PendingSpace, BadKey, NotPending}
-use Rattle.lru_disk_cache.specs.declared.error.Error.TheVariants.{WrongDigest, WriterRefused}
-use Rattle.lru_disk_cache.specs.declared.error.Error.TheVariants.{Memory as NoMemory}
+use Rattle.dist_types.specs.CacheError.{error_of}
+use Rattle.dist_types.specs.declared.folder_fault.FolderFault.{FolderFault}
+use Rattle.dist_types.specs.declared.folder_fault.FolderFault.TheVariants.{Missing, Failed, Memory}
+use Rattle.dist_types.specs.declared.cache_error.Error.{Error}
+use Rattle.dist_types.specs.declared.cache_error.Error.TheVariants.{FileTooLarge, FileNotInCache, Io}
+use Rattle.dist_types.specs.declared.cache_error.Error.TheVariants.{PendingSpace, BadKey, NotPending}
+use Rattle.dist_types.specs.declared.cache_error.Error.TheVariants.{WrongDigest, WriterRefused}
+use Rattle.dist_types.specs.declared.cache_error.Error.TheVariants.{Memory as NoMemory}
 use Rattle.lru_disk_cache.specs.Key.{temp_name}
 use Rattle.lru_disk_cache.specs.Entries.{Entries, trim, IsEnd}
 use Rattle.lru_disk_cache.specs.Disk.{Left, stored, without_each}
 use Rattle.lru_disk_cache.specs.Reserved.{Reservation, AddEntry, held_size, is_pending, is_sure}
 use Rattle.lru_disk_cache.specs.Reserved.{without_number, unsure}
-use Rattle.lru_disk_cache.specs.Store.{Disk, room_beside, insert_verdict, error_of, Refuses, IoCause}
+use Rattle.lru_disk_cache.specs.Store.{Disk, room_beside, insert_verdict, Refuses, IoCause}
 
 -- ---- a reservation is made
 

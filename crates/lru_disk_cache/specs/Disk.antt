@@ -5,9 +5,16 @@ use Rattle.std.specs.List.{AllByRecursion}
 use Rattle.std.specs.Map.{remove_entry}
 use Rattle.std.specs.Str.{bytes_eq}
 use Rattle.folders.specs.Files.{Files, file_at, size_at, put, without, moved}
-use Rattle.folders.specs.Held.{Held, Holds, Became}
-use Rattle.lru_disk_cache.specs.Key.{is_key, temp_name}
+use Rattle.folders.specs.Held.{Held, Holds, Became, BecameBy}
+use Rattle.lru_disk_cache.specs.Key.{is_key, temp_name, insert_name}
 use Rattle.lru_disk_cache.specs.Entries.{Entries, Listed, total, trim, IsEnd}
+
+-- the files that a folder tells became so, or exactly what this makes of them
+abbrev pub Turns : (Files → Files → Type 0) → Held → Held → Type 0
+Turns part old new = Became part old.files new.files
+
+abbrev pub TurnsBy : (Files → Files) → Held → Held → Type 0
+TurnsBy done old new = BecameBy done old.files new.files
 
 -- each entry has a file of its size
 abbrev pub Backed : List ℕ → Files → Entries → Type 0
@@ -35,7 +42,11 @@ abbrev pub ButThese : List ℕ → List ℕ → List ℕ → Entries → Files �
 ButThese root from path entries old new = (q : List ℕ) → bytes_eq from q ≡ false → bytes_eq path q ≡ false
     → Avoids root q entries → file_at new q ≡ file_at old q
 
--- it is the path of a temporary file under a root
+-- it lies under a root, and is the path of no key's file
+abbrev pub IsKeyless : List ℕ → List ℕ → Type 0
+IsKeyless root path = (name : List ℕ) × (is_key name ≡ false) × (path ≡ root ++ name)
+
+-- it is the path of a reservation's temporary file under a root
 abbrev pub IsTemp : List ℕ → List ℕ → Type 0
 IsTemp root path = (n : ℕ) × (n < 2 ^ 64) × (path ≡ root ++ temp_name n)
 
@@ -44,13 +55,27 @@ abbrev pub Keeps : List ℕ → Entries → Files → Files → Type 0
 Keeps root entries old new = AllByRecursion (λ e. file_at new (root ++ e.0) ≡ file_at old (root ++ e.0))
     entries
 
--- it is no path of a temporary file under a root
+-- it is the path of an insert's temporary file under a root
+abbrev pub IsInsertTemp : List ℕ → List ℕ → Type 0
+IsInsertTemp root path = (n : ℕ) × (n < 2 ^ 64) × (path ≡ root ++ insert_name n)
+
+-- it is no path of a reservation's temporary file under a root
 abbrev pub IsNoTemp : List ℕ → List ℕ → Type 0
 IsNoTemp root q = ¬ (IsTemp root q)
 
--- it is no path of a temporary file under a root, and not this one
+-- it is no path of an insert's temporary file under a root, and not this one
 abbrev pub IsBeside : List ℕ → List ℕ → List ℕ → Type 0
-IsBeside root path q = IsNoTemp root q × (bytes_eq path q ≡ false)
+IsBeside root path q = (¬ (IsInsertTemp root q)) × (bytes_eq path q ≡ false)
+
+-- the temporary file of each insert but that of this number is as it was
+abbrev pub ButInsert : List ℕ → ℕ → Files → Files → Type 0
+ButInsert root number old new = (n : ℕ) → ¬ (n ≡ number) → n < 2 ^ 64
+    → file_at new (root ++ insert_name n) ≡ file_at old (root ++ insert_name n)
+
+-- that of each of a lower number is as it was
+abbrev pub KeepsSpoiled : List ℕ → ℕ → Files → Files → Type 0
+KeepsSpoiled root spoiled old new = (n : ℕ) → n < spoiled → n < 2 ^ 64
+    → file_at new (root ++ insert_name n) ≡ file_at old (root ++ insert_name n)
 
 -- Entries went from the front, and only where those left were past the limit. What is left stands, and no
 -- other file changed.

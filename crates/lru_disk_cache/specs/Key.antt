@@ -21,9 +21,13 @@ are_key parts = list_all is_plain parts && not (is_temporary (last_behind [] par
 unfoldable pub is_key : List ℕ → Bool
 is_key text = are_key (slice_split (λ b. b == 47) text)
 
--- the name of the temporary file of a number
+-- the name of the temporary file of a reservation, by its number
 unfoldable pub temp_name : ℕ → List ℕ
 temp_name number = codes ".sccachetmp" ++ decimal number
+
+-- the name of the temporary file of an insert, by the number of faults of inserts before it
+unfoldable pub insert_name : ℕ → List ℕ
+insert_name number = codes ".sccachetmp-" ++ decimal number
 
 -- whether the last part of a path is the name of a temporary file
 abbrev pub names_temporary : List ℕ → Bool

@@ -8,3 +8,4 @@ pub mod Reliable
 pub mod Adding
 pub mod Moving
 pub mod Read
+pub mod Spoiling

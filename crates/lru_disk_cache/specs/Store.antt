@@ -1,22 +1,22 @@
 -- A disk cache: its disk and its folder, and what each call leaves.
 use Rattle.std.specs.Prelude.{◌≡◌, ℕ, ◌+◌, ◌-◌, ◌≤◌, [], ◌⊎◌, not, nat_lt, if◌then◌else◌, List, None, Result}
-use Rattle.std.specs.Prelude.{Ok, Err, IsSome}
+use Rattle.std.specs.Prelude.{Ok, Err, IsSome, OnOk}
 use Rattle.std.specs.Map.{lookup}
 use Rattle.std.specs.Str.{bytes_eq}
-use Rattle.dist_types.specs.Cause.{Rose}
+use Rattle.dist_types.specs.Cause.{Rose, counted}
 use Rattle.folders.specs.Files.{Files, front}
 use Rattle.folders.specs.Held.{Held, Holds}
-use Rattle.folders.specs.declared.fault.FolderFault.{FolderFault}
-use Rattle.folders.specs.declared.fault.FolderFault.TheVariants.{Missing, Failed, Memory}
-use Rattle.lru_disk_cache.specs.declared.error.Error.{Error}
-use Rattle.lru_disk_cache.specs.declared.error.Error.TheVariants.{FileTooLarge, FileNotInCache, Io}
-use Rattle.lru_disk_cache.specs.declared.error.Error.TheVariants.{PendingSpace, BadKey, NotPending}
-use Rattle.lru_disk_cache.specs.declared.error.Error.TheVariants.{WrongDigest, WriterRefused}
-use Rattle.lru_disk_cache.specs.declared.error.Error.TheVariants.{Memory as NoMemory}
+use Rattle.dist_types.specs.declared.folder_fault.FolderFault.{FolderFault}
+use Rattle.dist_types.specs.declared.folder_fault.FolderFault.TheVariants.{Missing, Failed, Memory}
+use Rattle.dist_types.specs.declared.cache_error.Error.{Error}
+use Rattle.dist_types.specs.declared.cache_error.Error.TheVariants.{FileTooLarge, FileNotInCache, Io}
+use Rattle.dist_types.specs.declared.cache_error.Error.TheVariants.{PendingSpace, BadKey, NotPending}
+use Rattle.dist_types.specs.declared.cache_error.Error.TheVariants.{WrongDigest, WriterRefused}
+use Rattle.dist_types.specs.declared.cache_error.Error.TheVariants.{Memory as NoMemory}
 use Rattle.lru_disk_cache.specs.Key.{is_key}
 use Rattle.lru_disk_cache.specs.Entries.{Entries, total, promoted_key}
 use Rattle.lru_disk_cache.specs.Opened.{opened, InStep}
-use Rattle.lru_disk_cache.specs.Disk.{Stands, stored, Left, without_key}
+use Rattle.lru_disk_cache.specs.Disk.{Stands, Turns, TurnsBy, stored, Left, without_key}
 use Rattle.lru_disk_cache.specs.Reserved.{Reservation, held_size, AllReserved, NumbersDiffer, AllSure}
 
 -- The path of a cache and what the path of each of its files begins with, its capacity, its keys with sizes,
@@ -28,10 +28,12 @@ pub record Disk : Type 0 where
   pub entries : Entries
   pub pending : List Reservation
 
--- a cache over a folder
+-- A cache over a folder, and how many inserts failed, as a count that stops at 2^64 - 1. What those left of
+-- their temporary files stays till the next opening.
 pub record Store (F : Type 0) : Type 0 where
   pub disk : Disk
   pub folder : F
+  pub spoiled : ℕ
 
 -- A cache whose files stand, whose entries and reservations fit its capacity, and whose reservations' numbers
 -- differ. The temporary files that are sure to be there are, where files are told.
@@ -47,11 +49,29 @@ pub record IsStore (held : Held) (d : Disk) : Type 0 where
 abbrev pub DiskInStep : Held → Disk → Type 0
 DiskInStep held d = Holds held (λ files. InStep d.root files d.entries)
 
--- a fault of the folder, as the cache tells it
-abbrev pub error_of : FolderFault → Error
-error_of Missing = Io Missing
-error_of Failed = Io Failed
-error_of Memory = NoMemory
+-- where a call succeeds, a list that was in step with the files is so still
+abbrev pub KeepsInStep : {F T E : Type 0} → (F → Held) → Result T E → Store F → Store F → Type 0
+KeepsInStep held result old new = DiskInStep (held old.folder) old.disk
+    → OnOk result (DiskInStep (held new.folder) new.disk)
+
+-- the files of a cache's folder became so, or exactly what this makes of them
+abbrev pub Leaves : {F : Type 0} → (F → Held) → (Files → Files → Type 0) → Store F → Store F → Type 0
+Leaves held part old new = Turns part (held old.folder) (held new.folder)
+
+abbrev pub Makes : {F : Type 0} → (F → Held) → (Files → Files) → Store F → Store F → Type 0
+Makes held done old new = TurnsBy done (held old.folder) (held new.folder)
+
+-- Io and want of memory raise the count of inserts that failed, and a refusal leaves it
+abbrev pub Spoils : Error → ℕ → ℕ → Type 0
+Spoils (Io fault) old new = new ≡ counted old
+Spoils NoMemory old new = new ≡ counted old
+Spoils BadKey old new = new ≡ old
+Spoils FileTooLarge old new = new ≡ old
+Spoils PendingSpace old new = new ≡ old
+Spoils FileNotInCache old new = new ≡ old
+Spoils NotPending old new = new ≡ old
+Spoils WrongDigest old new = new ≡ old
+Spoils WriterRefused old new = new ≡ old
 
 -- why the folder failed: the count rose, or files are not told
 abbrev pub IoCause : FolderFault → Held → Held → Type 0

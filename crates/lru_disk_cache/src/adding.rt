@@ -2,12 +2,12 @@
 ghost use Rattle.std.specs.Prelude.{◌≡◌, ◌+◌, ◌++◌, ◌≤◌, ◌⊎◌, [], true, Some, Ok, Err, IfOk, IfErr, OnOk};
 ghost use Rattle.std.specs.Prelude.{OnErr};
 ghost use Rattle.folders.specs.Files.{file_at, without, appended, PartAppended};
-ghost use Rattle.folders.specs.Held.{Holds, Became, BecameBy, Lacks};
+ghost use Rattle.folders.specs.Held.{Holds, Lacks};
 ghost use Rattle.lru_disk_cache.specs.Key.{is_key};
 ghost use Rattle.folders.specs.Changed.{RemovedOrSame, IsNeither, OnlyRemoved};
 ghost use Rattle.lru_disk_cache.specs.Disk.{IsNoTemp};
 ghost use Rattle.folders.specs.Changed.{ButAt, ButUnder};
-ghost use Rattle.lru_disk_cache.specs.Disk.{Keeps, dropped, files_placed, without_key};
+ghost use Rattle.lru_disk_cache.specs.Disk.{Keeps, KeepsSpoiled, dropped, files_placed, without_key};
 ghost use Rattle.lru_disk_cache.specs.Reserved.{held_size, is_pending, without_number, IsLeastFree};
 ghost use Rattle.lru_disk_cache.specs.Reserved.{KeepsReserved};
 ghost use Rattle.folders.specs.Whole.{OldOrMoved};
@@ -24,7 +24,8 @@ use folders::fault::FolderFault;
 use folders::folder::Folder;
 
 impl<F: Folder> LruDiskCache<F> {
-    ghost use Rattle.lru_disk_cache.specs.Store.{IsStore, DiskInStep, room_beside, insert_verdict, Uncounted};
+    ghost use Rattle.lru_disk_cache.specs.Store.{KeepsInStep, Leaves, Makes};
+    ghost use Rattle.lru_disk_cache.specs.Store.{IsStore, room_beside, insert_verdict, Uncounted};
 
     /// Announces a file of this size under a key: the least recent go until it fits, and its size is held
     /// until it is committed or abandoned. Its temporary file is empty.
@@ -44,24 +45,20 @@ impl<F: Folder> LruDiskCache<F> {
         ensures fails { IfErr result
             (λ e. PrepareFails key.now size e self.old.disk self.new.disk (F.held self.old.folder)
             (F.held self.new.folder)) }
-        ensures kept { Became (Keeps self.old.disk.root self.new.disk.entries) (F.held self.old.folder).files
-            (F.held self.new.folder).files }
-        ensures reserved { Became (KeepsReserved self.old.disk.pending) (F.held self.old.folder).files
-            (F.held self.new.folder).files }
-        ensures others { Became (ButUnder self.old.disk.root) (F.held self.old.folder).files
-            (F.held self.new.folder).files }
-        ensures exact { IfOk result
-            (λ e. BecameBy (files_prepared self.old.disk.root (entry_path self.old.disk e)
-            (dropped (room_beside self.old.disk size) self.old.disk.entries)) (F.held self.old.folder).files
-            (F.held self.new.folder).files) }
-        ensures removed { Became (RemovedOrSame (IsNoTemp self.old.disk.root))
-            (F.held self.old.folder).files (F.held self.new.folder).files }
+        ensures kept { Leaves F.held (Keeps self.old.disk.root self.new.disk.entries) self.old self.new }
+        ensures reserved { Leaves F.held (KeepsReserved self.old.disk.pending) self.old self.new }
+        ensures others { Leaves F.held (ButUnder self.old.disk.root) self.old self.new }
+        ensures exact { IfOk result (λ e. Makes F.held (files_prepared self.old.disk.root (entry_path
+            self.old.disk e) (dropped (room_beside self.old.disk size) self.old.disk.entries)) self.old
+            self.new) }
+        ensures removed { Leaves F.held (RemovedOrSame (IsNoTemp self.old.disk.root)) self.old self.new }
         ensures steady { OnOk result ((F.held self.new.folder).faults ≡ (F.held self.old.folder).faults) }
         ensures uncounted { IfErr result
             (λ e. Uncounted e (F.held self.old.folder) (F.held self.new.folder)) }
         ensures later { (F.held self.old.folder).faults ≤ (F.held self.new.folder).faults }
-        ensures in_step { DiskInStep (F.held self.old.folder) self.old.disk
-            → OnOk result (DiskInStep (F.held self.new.folder) self.new.disk) }
+        ensures in_step { KeepsInStep F.held result self.old self.new }
+        ensures stays { Leaves F.held (KeepsSpoiled self.old.disk.root self.old.spoiled) self.old self.new }
+        ensures unspoiled { self.new.spoiled ≡ self.old.spoiled }
         ensures stands { IsStore (F.held self.new.folder) self.new.disk }
     {
         self.shown();
@@ -93,30 +90,30 @@ impl<F: Folder> LruDiskCache<F> {
     /// number, key and size, which leaves all as it was; then as `Error::Io` or for want of memory, which
     /// leave a front of the bytes added. Where files are told, `FolderFault::Missing` comes exactly where a
     /// commit of the entry failed before and its file is not there any more, which leaves all as it was.
+    #[tactic(auto, using(crate::proofs::Standing::none_lost, crate::proofs::Reserving::none_reserved, crate::proofs::Spoiled::none_spoiled))]
     pub fn write_entry(&mut self, entry: &LruDiskCacheAddEntry, bytes: &[u8]) -> Result<()>
-        ensures ok { OnOk result (BecameBy (appended (entry_path self.old.disk entry.now) bytes.now)
-            (F.held self.old.folder).files (F.held self.new.folder).files) }
+        ensures ok { OnOk result (Makes F.held (appended (entry_path self.old.disk entry.now) bytes.now)
+            self.old self.new) }
         ensures pending { OnOk result (is_pending entry.now self.old.disk.pending ≡ true) }
         ensures there { OnOk result (Holds (F.held self.old.folder)
             (λ files. ¬ (Lacks (entry_path self.old.disk entry.now) files))) }
-        ensures part { OnErr result (Became (PartAppended (entry_path self.old.disk entry.now) bytes.now)
-            (F.held self.old.folder).files (F.held self.new.folder).files) }
+        ensures part { OnErr result (Leaves F.held (PartAppended (entry_path self.old.disk entry.now)
+            bytes.now) self.old self.new) }
         ensures fails { IfErr result
             (λ e. WriteFails entry.now e self.old.disk self.new.disk (F.held self.old.folder)
             (F.held self.new.folder)) }
         ensures disk { self.new.disk ≡ self.old.disk }
-        ensures others { Became (ButAt (entry_path self.old.disk entry.now)) (F.held self.old.folder).files
-            (F.held self.new.folder).files }
-        ensures kept { Became (Keeps self.old.disk.root self.old.disk.entries) (F.held self.old.folder).files
-            (F.held self.new.folder).files }
-        ensures reserved { Became (KeepsReserved (without_number entry.now.number self.old.disk.pending))
-            (F.held self.old.folder).files (F.held self.new.folder).files }
+        ensures others { Leaves F.held (ButAt (entry_path self.old.disk entry.now)) self.old self.new }
+        ensures kept { Leaves F.held (Keeps self.old.disk.root self.old.disk.entries) self.old self.new }
+        ensures reserved { Leaves F.held (KeepsReserved (without_number entry.now.number
+            self.old.disk.pending)) self.old self.new }
         ensures steady { OnOk result ((F.held self.new.folder).faults ≡ (F.held self.old.folder).faults) }
         ensures uncounted { IfErr result
             (λ e. Uncounted e (F.held self.old.folder) (F.held self.new.folder)) }
         ensures later { (F.held self.old.folder).faults ≤ (F.held self.new.folder).faults }
-        ensures in_step { DiskInStep (F.held self.old.folder) self.old.disk
-            → OnOk result (DiskInStep (F.held self.new.folder) self.new.disk) }
+        ensures in_step { KeepsInStep F.held result self.old self.new }
+        ensures stays { Leaves F.held (KeepsSpoiled self.old.disk.root self.old.spoiled) self.old self.new }
+        ensures unspoiled { self.new.spoiled ≡ self.old.spoiled }
         ensures stands { IsStore (F.held self.new.folder) self.new.disk }
     {
         let Some(temp) = self.pending.temp_of(entry) else {
@@ -140,40 +137,34 @@ impl<F: Folder> LruDiskCache<F> {
         &mut self,
         entry: LruDiskCacheAddEntry,
     ) -> std::result::Result<(), (Error, LruDiskCacheAddEntry)>
-        ensures ok { OnOk result ((n : _) × HasSize self.old.disk entry (F.held self.old.folder) n
-            × (commit_verdict self.old.disk entry n ≡ Ok tt)
-            × (self.new.disk ≡ committed self.old.disk entry n)
-            × BecameBy (files_placed self.old.disk.root (entry_path self.old.disk entry)
-            (self.old.disk.root ++ entry.key)
-            (dropped (room_for self.old.disk entry n) (without_key entry.key self.old.disk.entries)))
-            (F.held self.old.folder).files (F.held self.new.folder).files) }
+        ensures ok { OnOk result ((n : _) × HasSize self.old.disk entry (F.held self.old.folder) n ×
+            (commit_verdict self.old.disk entry n ≡ Ok tt) × (self.new.disk ≡ committed self.old.disk entry
+            n) × Makes F.held (files_placed self.old.disk.root (entry_path self.old.disk entry)
+            (self.old.disk.root ++ entry.key) (dropped (room_for self.old.disk entry n) (without_key
+            entry.key self.old.disk.entries))) self.old self.new) }
         ensures pending { OnOk result (is_pending entry self.old.disk.pending ≡ true) }
-        ensures content { OnOk result
-            (Became (λ old new. file_at new (self.old.disk.root ++ entry.key) ≡ file_at old
-            (entry_path self.old.disk entry)) (F.held self.old.folder).files (F.held self.new.folder).files) }
-        ensures whole { Became
-            (OldOrMoved (entry_path self.old.disk entry) (self.old.disk.root ++ entry.key))
-            (F.held self.old.folder).files (F.held self.new.folder).files }
+        ensures content { OnOk result (Leaves F.held (λ old new. file_at new (self.old.disk.root ++
+            entry.key) ≡ file_at old (entry_path self.old.disk entry)) self.old self.new) }
+        ensures whole { Leaves F.held (OldOrMoved (entry_path self.old.disk entry) (self.old.disk.root ++
+            entry.key)) self.old self.new }
         ensures back { IfErr result (λ e. e.1 ≡ entry) }
         ensures fails { IfErr result
             (λ e. CommitFails entry e.0 self.old.disk self.new.disk (F.held self.old.folder)
             (F.held self.new.folder)) }
-        ensures kept { OnErr result
-            (Became (Keeps self.old.disk.root self.new.disk.entries) (F.held self.old.folder).files
-            (F.held self.new.folder).files) }
-        ensures reserved { Became (KeepsReserved (without_number entry.number self.old.disk.pending))
-            (F.held self.old.folder).files (F.held self.new.folder).files }
-        ensures others { Became (ButUnder self.old.disk.root) (F.held self.old.folder).files
-            (F.held self.new.folder).files }
-        ensures removed { Became
-            (RemovedOrSame (IsNeither (entry_path self.old.disk entry) (self.old.disk.root ++ entry.key)))
-            (F.held self.old.folder).files (F.held self.new.folder).files }
+        ensures kept { OnErr result (Leaves F.held (Keeps self.old.disk.root self.new.disk.entries) self.old
+            self.new) }
+        ensures reserved { Leaves F.held (KeepsReserved (without_number entry.number self.old.disk.pending))
+            self.old self.new }
+        ensures others { Leaves F.held (ButUnder self.old.disk.root) self.old self.new }
+        ensures removed { Leaves F.held (RemovedOrSame (IsNeither (entry_path self.old.disk entry)
+            (self.old.disk.root ++ entry.key))) self.old self.new }
         ensures steady { OnOk result ((F.held self.new.folder).faults ≡ (F.held self.old.folder).faults) }
         ensures uncounted { IfErr result
             (λ e. Uncounted e.0 (F.held self.old.folder) (F.held self.new.folder)) }
         ensures later { (F.held self.old.folder).faults ≤ (F.held self.new.folder).faults }
-        ensures in_step { DiskInStep (F.held self.old.folder) self.old.disk
-            → OnOk result (DiskInStep (F.held self.new.folder) self.new.disk) }
+        ensures in_step { KeepsInStep F.held result self.old self.new }
+        ensures stays { Leaves F.held (KeepsSpoiled self.old.disk.root self.old.spoiled) self.old self.new }
+        ensures unspoiled { self.new.spoiled ≡ self.old.spoiled }
         ensures stands { IsStore (F.held self.new.folder) self.new.disk }
     {
         match self.commit_entry(&entry) {
@@ -191,6 +182,7 @@ impl<F: Folder> LruDiskCache<F> {
     /// Refused as `Error::NotPending` exactly where this cache has no open reservation with the entry's
     /// number, key and size, which leaves all as it was and alone hands the entry back; and as `Error::Io`
     /// or for want of the folder's memory, which leave the reservation closed.
+    #[tactic(auto, using(folders::proofs::Exactly::none_removed, crate::proofs::Standing::none_lost, crate::proofs::Reserving::none_reserved, crate::proofs::Spoiled::none_spoiled))]
     pub fn abandon(
         &mut self,
         entry: LruDiskCacheAddEntry,
@@ -198,24 +190,23 @@ impl<F: Folder> LruDiskCache<F> {
         ensures ok { OnOk result (self.new.disk ≡ abandoned self.old.disk entry) }
         ensures pending { OnOk result (is_pending entry self.old.disk.pending ≡ true) }
         ensures gone { OnOk result (Holds (F.held self.new.folder) (Lacks (entry_path self.old.disk entry))) }
-        ensures exact { OnOk result (Became (λ old new. new ≡ without (entry_path self.old.disk entry) old)
-            (F.held self.old.folder).files (F.held self.new.folder).files) }
+        ensures exact { OnOk result (Leaves F.held (λ old new. new ≡ without (entry_path self.old.disk entry)
+            old) self.old self.new) }
         ensures fails { IfErr result
             (λ e. AbandonFails entry e.0 e.1 self.old.disk self.new.disk (F.held self.old.folder)
             (F.held self.new.folder)) }
-        ensures removed { Became OnlyRemoved (F.held self.old.folder).files (F.held self.new.folder).files }
-        ensures others { Became (ButAt (entry_path self.old.disk entry)) (F.held self.old.folder).files
-            (F.held self.new.folder).files }
-        ensures kept { Became (Keeps self.old.disk.root self.old.disk.entries) (F.held self.old.folder).files
-            (F.held self.new.folder).files }
-        ensures reserved { Became (KeepsReserved (without_number entry.number self.old.disk.pending))
-            (F.held self.old.folder).files (F.held self.new.folder).files }
+        ensures removed { Leaves F.held OnlyRemoved self.old self.new }
+        ensures others { Leaves F.held (ButAt (entry_path self.old.disk entry)) self.old self.new }
+        ensures kept { Leaves F.held (Keeps self.old.disk.root self.old.disk.entries) self.old self.new }
+        ensures reserved { Leaves F.held (KeepsReserved (without_number entry.number self.old.disk.pending))
+            self.old self.new }
         ensures steady { OnOk result ((F.held self.new.folder).faults ≡ (F.held self.old.folder).faults) }
         ensures uncounted { IfErr result
             (λ e. Uncounted e.0 (F.held self.old.folder) (F.held self.new.folder)) }
         ensures later { (F.held self.old.folder).faults ≤ (F.held self.new.folder).faults }
-        ensures in_step { DiskInStep (F.held self.old.folder) self.old.disk
-            → OnOk result (DiskInStep (F.held self.new.folder) self.new.disk) }
+        ensures in_step { KeepsInStep F.held result self.old self.new }
+        ensures stays { Leaves F.held (KeepsSpoiled self.old.disk.root self.old.spoiled) self.old self.new }
+        ensures unspoiled { self.new.spoiled ≡ self.old.spoiled }
         ensures stands { IsStore (F.held self.new.folder) self.new.disk }
     {
         let Some(temp) = self.pending.temp_of(&entry) else {
@@ -237,6 +228,7 @@ impl<F: Folder> LruDiskCache<F> {
         ensures fails { IfErr result
             (λ e. WriteFails entry.now e self.old.disk self.new.disk (F.held self.old.folder)
             (F.held self.new.folder)) }
+        ensures unspoiled { self.new.spoiled ≡ self.old.spoiled }
         ensures disk { self.new.disk ≡ self.old.disk }
         ensures files { (F.held self.new.folder).files ≡ (F.held self.old.folder).files }
         ensures uncounted { IfErr result
@@ -280,43 +272,35 @@ impl<F: Folder> LruDiskCache<F> {
     }
 
     // What a commit does, but for spending the entry.
-    #[tactic(auto, using(crate::proofs::Spared::all_same))]
+    #[tactic(auto, using(crate::proofs::Spared::all_same, crate::proofs::Standing::none_lost, crate::proofs::Reserving::none_reserved, crate::proofs::Spoiled::none_spoiled))]
     fn commit_entry(&mut self, entry: &LruDiskCacheAddEntry) -> Result<()>
-        ensures ok { OnOk result ((n : _) × HasSize self.old.disk entry.now (F.held self.old.folder) n
-            × (commit_verdict self.old.disk entry.now n ≡ Ok tt)
-            × (self.new.disk ≡ committed self.old.disk entry.now n)
-            × BecameBy (files_placed self.old.disk.root (entry_path self.old.disk entry.now)
-            (self.old.disk.root ++ entry.now.key)
-            (dropped (room_for self.old.disk entry.now n) (without_key entry.now.key self.old.disk.entries)))
-            (F.held self.old.folder).files (F.held self.new.folder).files) }
+        ensures ok { OnOk result ((n : _) × HasSize self.old.disk entry.now (F.held self.old.folder) n ×
+            (commit_verdict self.old.disk entry.now n ≡ Ok tt) × (self.new.disk ≡ committed self.old.disk
+            entry.now n) × Makes F.held (files_placed self.old.disk.root (entry_path self.old.disk entry.now)
+            (self.old.disk.root ++ entry.now.key) (dropped (room_for self.old.disk entry.now n) (without_key
+            entry.now.key self.old.disk.entries))) self.old self.new) }
         ensures pending { OnOk result (is_pending entry.now self.old.disk.pending ≡ true) }
-        ensures content { OnOk result
-            (Became (λ old new. file_at new (self.old.disk.root ++ entry.now.key) ≡ file_at old
-            (entry_path self.old.disk entry.now)) (F.held self.old.folder).files
-            (F.held self.new.folder).files) }
-        ensures whole { Became
-            (OldOrMoved (entry_path self.old.disk entry.now) (self.old.disk.root ++ entry.now.key))
-            (F.held self.old.folder).files (F.held self.new.folder).files }
+        ensures content { OnOk result (Leaves F.held (λ old new. file_at new (self.old.disk.root ++
+            entry.now.key) ≡ file_at old (entry_path self.old.disk entry.now)) self.old self.new) }
+        ensures whole { Leaves F.held (OldOrMoved (entry_path self.old.disk entry.now) (self.old.disk.root ++
+            entry.now.key)) self.old self.new }
         ensures fails { IfErr result
             (λ e. CommitFails entry.now e self.old.disk self.new.disk (F.held self.old.folder)
             (F.held self.new.folder)) }
-        ensures kept { OnErr result
-            (Became (Keeps self.old.disk.root self.new.disk.entries) (F.held self.old.folder).files
-            (F.held self.new.folder).files) }
-        ensures reserved { Became (KeepsReserved (without_number entry.now.number self.old.disk.pending))
-            (F.held self.old.folder).files (F.held self.new.folder).files }
-        ensures others { Became (ButUnder self.old.disk.root) (F.held self.old.folder).files
-            (F.held self.new.folder).files }
-        ensures removed { Became
-            (RemovedOrSame (IsNeither (entry_path self.old.disk entry.now)
-            (self.old.disk.root ++ entry.now.key))) (F.held self.old.folder).files
-            (F.held self.new.folder).files }
+        ensures kept { OnErr result (Leaves F.held (Keeps self.old.disk.root self.new.disk.entries) self.old
+            self.new) }
+        ensures reserved { Leaves F.held (KeepsReserved (without_number entry.now.number
+            self.old.disk.pending)) self.old self.new }
+        ensures others { Leaves F.held (ButUnder self.old.disk.root) self.old self.new }
+        ensures removed { Leaves F.held (RemovedOrSame (IsNeither (entry_path self.old.disk entry.now)
+            (self.old.disk.root ++ entry.now.key))) self.old self.new }
         ensures steady { OnOk result ((F.held self.new.folder).faults ≡ (F.held self.old.folder).faults) }
         ensures uncounted { IfErr result
             (λ e. Uncounted e (F.held self.old.folder) (F.held self.new.folder)) }
         ensures later { (F.held self.old.folder).faults ≤ (F.held self.new.folder).faults }
-        ensures in_step { DiskInStep (F.held self.old.folder) self.old.disk
-            → OnOk result (DiskInStep (F.held self.new.folder) self.new.disk) }
+        ensures in_step { KeepsInStep F.held result self.old self.new }
+        ensures stays { Leaves F.held (KeepsSpoiled self.old.disk.root self.old.spoiled) self.old self.new }
+        ensures unspoiled { self.new.spoiled ≡ self.old.spoiled }
         ensures stands { IsStore (F.held self.new.folder) self.new.disk }
     {
         self.shown();

@@ -21,6 +21,7 @@ impl<F: Folder> LruDiskCache<F> {
         ensures leaves { Changes (Lacks path.now) (λ files. files) Same result (F.held self.old.folder)
             (F.held self.new.folder) }
         ensures disk { self.new.disk ≡ self.old.disk }
+        ensures unspoiled { self.new.spoiled ≡ self.old.spoiled }
         ensures stands { IsStore (F.held self.new.folder) self.new.disk }
     {
         self.folder.read(path)
@@ -38,6 +39,7 @@ impl<F: Folder> LruDiskCache<F> {
             (λ e. Uncounted e (F.held self.old.folder) (F.held self.new.folder)) }
         ensures later { (F.held self.old.folder).faults ≤ (F.held self.new.folder).faults }
         ensures disk { self.new.disk ≡ self.old.disk }
+        ensures unspoiled { self.new.spoiled ≡ self.old.spoiled }
         ensures stands { IsStore (F.held self.new.folder) self.new.disk }
     {
         measure(&mut self.folder, path)
@@ -49,6 +51,7 @@ impl<F: Folder> LruDiskCache<F> {
         ensures writes { Changes Never (put path.now bytes.now) (PartWritten path.now bytes.now) result
             (F.held self.old.folder) (F.held self.new.folder) }
         ensures disk { self.new.disk ≡ self.old.disk }
+        ensures unspoiled { self.new.spoiled ≡ self.old.spoiled }
         ensures stands { IsStore (F.held self.new.folder) self.new.disk }
     {
         self.folder.write(path, bytes)
@@ -62,6 +65,7 @@ impl<F: Folder> LruDiskCache<F> {
         ensures renames { Changes (Lacks from.now) (moved from.now to.now) (DoneOrNot (moved from.now to.now))
             result (F.held self.old.folder) (F.held self.new.folder) }
         ensures disk { self.new.disk ≡ self.old.disk }
+        ensures unspoiled { self.new.spoiled ≡ self.old.spoiled }
         ensures stands { IsStore (F.held self.new.folder) self.new.disk }
     {
         self.folder.rename(from, to)

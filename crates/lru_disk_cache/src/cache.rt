@@ -6,13 +6,14 @@ ghost use Rattle.std.specs.List.{IsDistinct};
 ghost use Rattle.std.specs.Map.{keys_of, lookup};
 ghost use Rattle.std.specs.Str.{bytes_eq};
 ghost use Rattle.folders.specs.Files.{file_at, front, touched, without};
-ghost use Rattle.folders.specs.Held.{Holds, Became, BecameBy, Lacks};
-ghost use Rattle.lru_disk_cache.specs.Key.{is_key, temp_name};
+ghost use Rattle.folders.specs.Held.{Holds, Became, Lacks};
+ghost use Rattle.lru_disk_cache.specs.Key.{is_key, temp_name, insert_name};
 ghost use Rattle.lru_disk_cache.specs.Entries.{total, IsTable};
 ghost use Rattle.lru_disk_cache.specs.Opened.{InStep, Shows, KeepsOpened};
 ghost use Rattle.folders.specs.Changed.{RemovedOrSame};
 ghost use Rattle.lru_disk_cache.specs.Disk.{IsBeside};
-ghost use Rattle.lru_disk_cache.specs.Disk.{Stands, IsTemp, Keeps, staying, dropped};
+ghost use Rattle.lru_disk_cache.specs.Disk.{Stands, IsTemp, IsInsertTemp, IsKeyless, Keeps, KeepsSpoiled};
+ghost use Rattle.lru_disk_cache.specs.Disk.{staying, dropped, ButInsert};
 ghost use Rattle.folders.specs.Changed.{ButAt, ButUnder, SameAt};
 ghost use Rattle.lru_disk_cache.specs.Disk.{files_stored, without_key};
 ghost use Rattle.folders.specs.Changed.{OnlyRemoved, RemovedUnder};
@@ -20,11 +21,12 @@ ghost use Rattle.lru_disk_cache.specs.Reserved.{held_size, KeepsReserved};
 ghost use Rattle.folders.specs.Whole.{OldOr};
 
 use crate::error::{Error, Result, io};
-use crate::key::{is_key, path_of, temp_path};
+use crate::key::{insert_path, is_key, path_of, temp_path};
 use crate::opening::open;
 use crate::reservations::Reservations;
 use crate::storing::{Arrival, fetch, remove_file, store};
 use crate::table::Table;
+use dist_types::fault::raise;
 use dist_types::text::Text;
 use folders::fault::FolderFault;
 use folders::folder::Folder;
@@ -43,6 +45,7 @@ pub struct LruDiskCache<F: Folder> {
     pub(crate) root: Text,
     pub(crate) table: Table,
     pub(crate) pending: Reservations,
+    pub(crate) spoiled: u64,
 }
 
 impl<F: Folder> Model for LruDiskCache<F> {
@@ -59,6 +62,7 @@ impl<F: Folder> Model for LruDiskCache<F> {
         pending = c.pending;
       };
       folder = c.folder;
+      spoiled = c.spoiled;
     } };
 
     ghost invariant = { λ c. IsStore (F.held c.folder)
@@ -72,9 +76,11 @@ impl<F: Folder> Model for LruDiskCache<F> {
 }
 
 impl<F: Folder> LruDiskCache<F> {
-    ghost use Rattle.lru_disk_cache.specs.Store.{IsStore, DiskInStep, inserted, looked_up, removed};
+    ghost use Rattle.lru_disk_cache.specs.Store.{KeepsInStep, Leaves, Makes};
+    ghost use Rattle.lru_disk_cache.specs.Store.{IsStore, inserted, looked_up, removed};
     ghost use Rattle.lru_disk_cache.specs.Store.{opened_disk, insert_verdict, room_beside, OpenFails};
     ghost use Rattle.lru_disk_cache.specs.Store.{InsertFails, LookUpFails, RemoveFails, Uncounted};
+    ghost use Rattle.lru_disk_cache.specs.Store.{Spoils};
 
     /// Opens a cache of `size` bytes of the files below a path. Those are removed that are no key's or larger
     /// than that, and the least recent where the others exceed it. Where that fails, as `Error::Io` or for
@@ -89,7 +95,7 @@ impl<F: Folder> LruDiskCache<F> {
         ensures opened { IfOk result
             (λ c. Holds (F.held folder) (λ files. c.disk ≡ opened_disk path.now size files)) }
         ensures empty { IfOk result (λ c. (c.disk.path ≡ path.now) × (c.disk.capacity ≡ size)
-            × (c.disk.pending ≡ [])) }
+            × (c.disk.pending ≡ []) × (c.spoiled ≡ 0)) }
         ensures in_step { IfOk result
             (λ c. Holds (F.held c.folder) (λ files. InStep c.disk.root files c.disk.entries)) }
         ensures stands { IfOk result (λ c. IsStore (F.held c.folder) c.disk) }
@@ -118,6 +124,7 @@ impl<F: Folder> LruDiskCache<F> {
                 root,
                 table,
                 pending: Reservations::new(alloc),
+                spoiled: 0,
             }),
             Err(fault) => Err((io(fault), folder)),
         }
@@ -197,6 +204,7 @@ impl<F: Folder> LruDiskCache<F> {
             root: _root,
             table: _table,
             pending: _pending,
+            spoiled: _spoiled,
         } = self;
         folder
     }
@@ -206,44 +214,39 @@ impl<F: Folder> LruDiskCache<F> {
     /// Refused as `Error::BadKey`, `Error::FileTooLarge` and `Error::PendingSpace`, in this order, which
     /// leave all as it was; then as `Error::Io` or for want of memory, which leave the list as it was, or
     /// the key out and some of the least recent gone, none more than had to go. The file of the key is as
-    /// it was or has all the bytes, never a part of them.
-    #[tactic(auto, using(crate::proofs::Spared::all_same))]
+    /// it was or has all the bytes, never a part of them. What was written of the temporary file stays until
+    /// the next opening, counts for no size, and is touched by no call before that.
+    #[tactic(auto, using(crate::proofs::Spared::all_same, crate::proofs::Spoiled::none_inserted))]
     pub fn insert_bytes(&mut self, key: &str, bytes: &[u8]) -> Result<()>
         ensures ok { OnOk result (self.new.disk ≡ inserted self.old.disk key.now (length bytes.now)) }
         ensures admits { OnOk result (insert_verdict self.old.disk key.now (length bytes.now) ≡ Ok tt) }
         ensures content { OnOk result
             (Holds (F.held self.new.folder)
             (λ files. file_at files (self.old.disk.root ++ key.now) ≡ Some bytes.now)) }
-        ensures whole { Became (OldOr (self.old.disk.root ++ key.now) bytes.now)
-            (F.held self.old.folder).files (F.held self.new.folder).files }
+        ensures whole { Leaves F.held (OldOr (self.old.disk.root ++ key.now) bytes.now) self.old self.new }
         ensures fails { IfErr result
             (λ e. InsertFails key.now (length bytes.now) e self.old.disk self.new.disk
             (F.held self.old.folder) (F.held self.new.folder)) }
-        ensures kept { OnOk result
-            (Became (Keeps self.old.disk.root
-            (staying key.now (room_beside self.old.disk (length bytes.now)) self.old.disk.entries))
-            (F.held self.old.folder).files (F.held self.new.folder).files) }
-        ensures left { OnErr result
-            (Became (Keeps self.old.disk.root self.new.disk.entries) (F.held self.old.folder).files
-            (F.held self.new.folder).files) }
-        ensures others { Became (ButUnder self.old.disk.root) (F.held self.old.folder).files
-            (F.held self.new.folder).files }
-        ensures reserved { Became (KeepsReserved self.old.disk.pending) (F.held self.old.folder).files
-            (F.held self.new.folder).files }
-        ensures exact { OnOk result ((temp : List ℕ) × IsTemp self.old.disk.root temp
-            × BecameBy (files_stored self.old.disk.root temp (self.old.disk.root ++ key.now) bytes.now
-            (dropped (room_beside self.old.disk (length bytes.now))
-            (without_key key.now self.old.disk.entries))) (F.held self.old.folder).files
-            (F.held self.new.folder).files) }
-        ensures removed { Became
-            (RemovedOrSame (IsBeside self.old.disk.root (self.old.disk.root ++ key.now)))
-            (F.held self.old.folder).files (F.held self.new.folder).files }
+        ensures kept { OnOk result (Leaves F.held (Keeps self.old.disk.root (staying key.now (room_beside
+            self.old.disk (length bytes.now)) self.old.disk.entries)) self.old self.new) }
+        ensures left { OnErr result (Leaves F.held (Keeps self.old.disk.root self.new.disk.entries) self.old
+            self.new) }
+        ensures others { Leaves F.held (ButUnder self.old.disk.root) self.old self.new }
+        ensures reserved { Leaves F.held (KeepsReserved self.old.disk.pending) self.old self.new }
+        ensures exact { OnOk result ((temp : List ℕ) × IsInsertTemp self.old.disk.root temp × Makes F.held
+            (files_stored self.old.disk.root temp (self.old.disk.root ++ key.now) bytes.now (dropped
+            (room_beside self.old.disk (length bytes.now)) (without_key key.now self.old.disk.entries)))
+            self.old self.new) }
+        ensures removed { Leaves F.held (RemovedOrSame (IsBeside self.old.disk.root (self.old.disk.root ++
+            key.now))) self.old self.new }
         ensures steady { OnOk result ((F.held self.new.folder).faults ≡ (F.held self.old.folder).faults) }
         ensures uncounted { IfErr result
             (λ e. Uncounted e (F.held self.old.folder) (F.held self.new.folder)) }
         ensures later { (F.held self.old.folder).faults ≤ (F.held self.new.folder).faults }
-        ensures in_step { DiskInStep (F.held self.old.folder) self.old.disk
-            → OnOk result (DiskInStep (F.held self.new.folder) self.new.disk) }
+        ensures in_step { KeepsInStep F.held result self.old self.new }
+        ensures stays { Leaves F.held (ButInsert self.old.disk.root self.old.spoiled) self.old self.new }
+        ensures unspoiled { OnOk result (self.new.spoiled ≡ self.old.spoiled) }
+        ensures spoils { IfErr result (λ e. Spoils e self.old.spoiled self.new.spoiled) }
         ensures stands { IsStore (F.held self.new.folder) self.new.disk }
     {
         self.shown();
@@ -253,7 +256,8 @@ impl<F: Folder> LruDiskCache<F> {
             Err(refusal) => return Err(refusal),
         }
         let limit = self.room_beside(size);
-        let Ok(arrival) = arrival_of(&self.root, self.pending.least_free(), key, size, limit) else {
+        let Ok(arrival) = insert_arrival(&self.root, self.spoiled, key, size, limit) else {
+            raise(&mut self.spoiled);
             return Err(Error::Memory);
         };
         match store(
@@ -264,7 +268,10 @@ impl<F: Folder> LruDiskCache<F> {
             bytes,
         ) {
             Ok(()) => Ok(()),
-            Err(fault) => Err(io(fault)),
+            Err(fault) => {
+                raise(&mut self.spoiled);
+                Err(io(fault))
+            }
         }
     }
 
@@ -282,16 +289,15 @@ impl<F: Folder> LruDiskCache<F> {
         ensures fails { IfErr result
             (λ e. LookUpFails key.now e self.old.disk self.new.disk (F.held self.old.folder)
             (F.held self.new.folder)) }
-        ensures others { Became SameAt (F.held self.old.folder).files (F.held self.new.folder).files }
-        ensures exact { OnOk result
-            (BecameBy (touched (self.old.disk.root ++ key.now)) (F.held self.old.folder).files
-            (F.held self.new.folder).files) }
+        ensures others { Leaves F.held SameAt self.old self.new }
+        ensures exact { OnOk result (Makes F.held (touched (self.old.disk.root ++ key.now)) self.old
+            self.new) }
         ensures steady { OnOk result ((F.held self.new.folder).faults ≡ (F.held self.old.folder).faults) }
         ensures uncounted { IfErr result
             (λ e. Uncounted e (F.held self.old.folder) (F.held self.new.folder)) }
         ensures later { (F.held self.old.folder).faults ≤ (F.held self.new.folder).faults }
-        ensures in_step { DiskInStep (F.held self.old.folder) self.old.disk
-            → OnOk result (DiskInStep (F.held self.new.folder) self.new.disk) }
+        ensures in_step { KeepsInStep F.held result self.old self.new }
+        ensures unspoiled { self.new.spoiled ≡ self.old.spoiled }
         ensures stands { IsStore (F.held self.new.folder) self.new.disk }
     {
         self.shown();
@@ -315,7 +321,7 @@ impl<F: Folder> LruDiskCache<F> {
     ///
     /// Refused as `Error::Io`, only where the key is listed, which leaves it out, and for want of memory,
     /// only where it is, which leaves the list as it was, or the key out.
-    #[tactic(auto, using(folders::proofs::Exactly::none_removed))]
+    #[tactic(auto, using(folders::proofs::Exactly::none_removed, crate::proofs::Standing::none_lost, crate::proofs::Reserving::none_reserved, crate::proofs::Spoiled::none_spoiled))]
     pub fn remove(&mut self, key: &str) -> Result<()>
         ensures ok { OnOk result (self.new.disk ≡ removed self.old.disk key.now) }
         ensures gone { OnOk result (IsSome (lookup (bytes_eq key.now) self.old.disk.entries)
@@ -323,24 +329,21 @@ impl<F: Folder> LruDiskCache<F> {
         ensures fails { IfErr result
             (λ e. RemoveFails key.now e self.old.disk self.new.disk (F.held self.old.folder)
             (F.held self.new.folder)) }
-        ensures others { Became (ButAt (self.old.disk.root ++ key.now)) (F.held self.old.folder).files
-            (F.held self.new.folder).files }
-        ensures kept { Became (Keeps self.old.disk.root self.new.disk.entries) (F.held self.old.folder).files
-            (F.held self.new.folder).files }
-        ensures reserved { Became (KeepsReserved self.old.disk.pending) (F.held self.old.folder).files
-            (F.held self.new.folder).files }
-        ensures exact { OnOk result (IsSome (lookup (bytes_eq key.now) self.old.disk.entries)
-            → BecameBy (without (self.old.disk.root ++ key.now)) (F.held self.old.folder).files
-            (F.held self.new.folder).files) }
+        ensures others { Leaves F.held (ButAt (self.old.disk.root ++ key.now)) self.old self.new }
+        ensures kept { Leaves F.held (Keeps self.old.disk.root self.new.disk.entries) self.old self.new }
+        ensures reserved { Leaves F.held (KeepsReserved self.old.disk.pending) self.old self.new }
+        ensures exact { OnOk result (IsSome (lookup (bytes_eq key.now) self.old.disk.entries) → Makes F.held
+            (without (self.old.disk.root ++ key.now)) self.old self.new) }
         ensures same { OnOk result (lookup (bytes_eq key.now) self.old.disk.entries ≡ None
             → F.held self.new.folder ≡ F.held self.old.folder) }
-        ensures removed { Became OnlyRemoved (F.held self.old.folder).files (F.held self.new.folder).files }
+        ensures removed { Leaves F.held OnlyRemoved self.old self.new }
         ensures steady { OnOk result ((F.held self.new.folder).faults ≡ (F.held self.old.folder).faults) }
         ensures uncounted { IfErr result
             (λ e. Uncounted e (F.held self.old.folder) (F.held self.new.folder)) }
         ensures later { (F.held self.old.folder).faults ≤ (F.held self.new.folder).faults }
-        ensures in_step { DiskInStep (F.held self.old.folder) self.old.disk
-            → OnOk result (DiskInStep (F.held self.new.folder) self.new.disk) }
+        ensures in_step { KeepsInStep F.held result self.old self.new }
+        ensures stays { Leaves F.held (KeepsSpoiled self.old.disk.root self.old.spoiled) self.old self.new }
+        ensures unspoiled { self.new.spoiled ≡ self.old.spoiled }
         ensures stands { IsStore (F.held self.new.folder) self.new.disk }
     {
         self.shown();
@@ -426,7 +429,8 @@ pub fn place_of(alloc: Global, path: &str) -> std::result::Result<(Text, Text), 
     Ok((path, root))
 }
 
-/// A file that is to stand under a key, by way of the temporary file of a number.
+/// A file that is to stand under a key, by way of the temporary file of a reservation, by its number.
+#[tactic(auto, using(crate::proofs::Paths::temp_keyless))]
 pub(crate) fn arrival_of(
     root: &Text,
     number: u64,
@@ -436,11 +440,32 @@ pub(crate) fn arrival_of(
 ) -> std::result::Result<Arrival, FolderFault>
     ensures from { IfOk result (λ a. a.from ≡ root.now ++ temp_name number) }
     ensures temp { IfOk result (λ a. IsTemp root.now a.from) }
+    ensures keyless { IfOk result (λ a. IsKeyless root.now a.from) }
     ensures number { number < 2 ^ 64 }
     ensures path { IfOk result (λ a. a.path ≡ root.now ++ key.now) }
     ensures key { IfOk result (λ a. (a.key ≡ key.now) × (a.size ≡ size) × (a.limit ≡ limit)) }
 {
     let from = temp_path(root.alloc(), root, number)?;
+    arrival_from(root, from, key, size, limit)
+}
+
+/// A file that is to stand under a key, by way of the temporary file of an insert, by its number.
+#[tactic(auto, using(crate::proofs::Paths::insert_keyless))]
+fn insert_arrival(
+    root: &Text,
+    number: u64,
+    key: &str,
+    size: u64,
+    limit: u64,
+) -> std::result::Result<Arrival, FolderFault>
+    ensures from { IfOk result (λ a. a.from ≡ root.now ++ insert_name number) }
+    ensures temp { IfOk result (λ a. IsInsertTemp root.now a.from) }
+    ensures keyless { IfOk result (λ a. IsKeyless root.now a.from) }
+    ensures number { number < 2 ^ 64 }
+    ensures path { IfOk result (λ a. a.path ≡ root.now ++ key.now) }
+    ensures key { IfOk result (λ a. (a.key ≡ key.now) × (a.size ≡ size) × (a.limit ≡ limit)) }
+{
+    let from = insert_path(root.alloc(), root, number)?;
     arrival_from(root, from, key, size, limit)
 }
 

@@ -1,6 +1,6 @@
 //! Keys, and the files that they name.
 ghost use Rattle.std.specs.Prelude.{◌≡◌, ◌++◌, IfOk, codes};
-ghost use Rattle.lru_disk_cache.specs.Key.{is_key, is_temporary, temp_name};
+ghost use Rattle.lru_disk_cache.specs.Key.{is_key, is_temporary, temp_name, insert_name};
 
 use dist_types::text::Text;
 use folders::paths::{is_plain, joined};
@@ -31,12 +31,21 @@ fn is_temporary(name: &str) -> bool
     name.as_bytes().starts_with(b".sccachetmp")
 }
 
-/// The path of the temporary file of a number under a root.
+/// The path of the temporary file of a reservation under a root, by its number.
 #[tactic(auto, unfolding(crate::specs::Key::temp_name))]
 pub(crate) fn temp_path(alloc: Global, root: &Text, number: u64) -> Result<Text, AllocError>
     ensures path { IfOk result (λ t. t ≡ root.now ++ temp_name number) }
 {
     let name = format!(in alloc; ".sccachetmp{number}")?;
+    joined(alloc, root.get(), name.as_str())
+}
+
+/// The path of the temporary file of an insert under a root, by its number.
+#[tactic(auto, unfolding(crate::specs::Key::insert_name))]
+pub(crate) fn insert_path(alloc: Global, root: &Text, number: u64) -> Result<Text, AllocError>
+    ensures path { IfOk result (λ t. t ≡ root.now ++ insert_name number) }
+{
+    let name = format!(in alloc; ".sccachetmp-{number}")?;
     joined(alloc, root.get(), name.as_str())
 }
 

@@ -6,11 +6,11 @@ ghost use Rattle.std.specs.Map.{lookup};
 ghost use Rattle.std.specs.Option.{option_map};
 ghost use Rattle.std.specs.Str.{bytes_eq};
 ghost use Rattle.folders.specs.Files.{file_at, touched};
-ghost use Rattle.folders.specs.Held.{Holds, Became, BecameBy};
+ghost use Rattle.folders.specs.Held.{Holds};
 ghost use Rattle.lru_disk_cache.specs.Key.{names_temporary};
 ghost use Rattle.folders.specs.Changed.{RemovedOrSame, IsNeither};
 ghost use Rattle.lru_disk_cache.specs.Disk.{IsBeside};
-ghost use Rattle.lru_disk_cache.specs.Disk.{Avoids, Keeps, dropped};
+ghost use Rattle.lru_disk_cache.specs.Disk.{Avoids, ButInsert, Keeps, KeepsSpoiled, dropped};
 ghost use Rattle.folders.specs.Changed.{ButUnderAnd, ButUnder, SameAt};
 ghost use Rattle.lru_disk_cache.specs.Disk.{files_placed, without_key};
 ghost use Rattle.lru_disk_cache.specs.Reserved.{KeepsReserved};
@@ -27,8 +27,10 @@ use folders::folder::Folder;
 use std::alloc::Global;
 
 impl<F: Folder> LruDiskCache<F> {
-    ghost use Rattle.lru_disk_cache.specs.Store.{IsStore, DiskInStep, inserted, looked_up, room_beside};
+    ghost use Rattle.lru_disk_cache.specs.Store.{KeepsInStep, Leaves, Makes};
+    ghost use Rattle.lru_disk_cache.specs.Store.{IsStore, inserted, looked_up, room_beside};
     ghost use Rattle.lru_disk_cache.specs.Store.{insert_verdict, LookUpFails, Uncounted};
+    ghost use Rattle.lru_disk_cache.specs.Spoiling.{MaySpoil};
 
     /// Stores a file of the folder under a key, as the most recent, by renaming it. The least recent go where
     /// they have to, and their files. Its path is neither that of the key's file nor of a listed key's, and
@@ -39,40 +41,33 @@ impl<F: Folder> LruDiskCache<F> {
     /// `Error::Io` or for want of memory, which leave the list as it was, or the key out and some of the
     /// least recent gone, none more than had to go. The file of the key is as it was or has all the bytes of
     /// that file.
-    #[tactic(auto, using(crate::proofs::Spared::all_same))]
+    #[tactic(auto, using(crate::proofs::Spared::all_same, crate::proofs::Standing::none_lost, crate::proofs::Reserving::none_reserved, crate::proofs::Spoiled::none_spoiled))]
     pub fn insert_file(&mut self, key: &str, path: &str) -> Result<()>
         requires apart { bytes_eq (self.old.disk.root ++ key.now) path.now ≡ false }
         requires avoids { Avoids self.old.disk.root path.now self.old.disk.entries }
         requires named { names_temporary path.now ≡ false }
-        ensures ok { OnOk result ((n : _) × IsSized path.now (F.held self.old.folder) n
-            × (insert_verdict self.old.disk key.now n ≡ Ok tt)
-            × (self.new.disk ≡ inserted self.old.disk key.now n)
-            × BecameBy (files_placed self.old.disk.root path.now (self.old.disk.root ++ key.now)
-            (dropped (room_beside self.old.disk n) (without_key key.now self.old.disk.entries)))
-            (F.held self.old.folder).files (F.held self.new.folder).files) }
-        ensures content { OnOk result
-            (Became (λ old new. file_at new (self.old.disk.root ++ key.now) ≡ file_at old path.now)
-            (F.held self.old.folder).files (F.held self.new.folder).files) }
-        ensures whole { Became (OldOrMoved path.now (self.old.disk.root ++ key.now))
-            (F.held self.old.folder).files (F.held self.new.folder).files }
+        ensures ok { OnOk result ((n : _) × IsSized path.now (F.held self.old.folder) n × (insert_verdict
+            self.old.disk key.now n ≡ Ok tt) × (self.new.disk ≡ inserted self.old.disk key.now n) × Makes
+            F.held (files_placed self.old.disk.root path.now (self.old.disk.root ++ key.now) (dropped
+            (room_beside self.old.disk n) (without_key key.now self.old.disk.entries))) self.old self.new) }
+        ensures content { OnOk result (Leaves F.held (λ old new. file_at new (self.old.disk.root ++ key.now)
+            ≡ file_at old path.now) self.old self.new) }
+        ensures whole { Leaves F.held (OldOrMoved path.now (self.old.disk.root ++ key.now)) self.old self.new }
         ensures fails { IfErr result (λ e. MoveFails key.now path.now e self.old.disk self.new.disk
             (F.held self.old.folder) (F.held self.new.folder)) }
-        ensures left { OnErr result
-            (Became (Keeps self.old.disk.root self.new.disk.entries) (F.held self.old.folder).files
-            (F.held self.new.folder).files) }
-        ensures reserved { Became (KeepsReserved self.old.disk.pending) (F.held self.old.folder).files
-            (F.held self.new.folder).files }
-        ensures others { Became (ButUnderAnd self.old.disk.root path.now) (F.held self.old.folder).files
-            (F.held self.new.folder).files }
-        ensures removed { Became
-            (RemovedOrSame (IsNeither path.now (self.old.disk.root ++ key.now)))
-            (F.held self.old.folder).files (F.held self.new.folder).files }
+        ensures left { OnErr result (Leaves F.held (Keeps self.old.disk.root self.new.disk.entries) self.old
+            self.new) }
+        ensures reserved { Leaves F.held (KeepsReserved self.old.disk.pending) self.old self.new }
+        ensures others { Leaves F.held (ButUnderAnd self.old.disk.root path.now) self.old self.new }
+        ensures removed { Leaves F.held (RemovedOrSame (IsNeither path.now (self.old.disk.root ++ key.now)))
+            self.old self.new }
         ensures steady { OnOk result ((F.held self.new.folder).faults ≡ (F.held self.old.folder).faults) }
         ensures uncounted { IfErr result
             (λ e. Uncounted e (F.held self.old.folder) (F.held self.new.folder)) }
         ensures later { (F.held self.old.folder).faults ≤ (F.held self.new.folder).faults }
-        ensures in_step { DiskInStep (F.held self.old.folder) self.old.disk
-            → OnOk result (DiskInStep (F.held self.new.folder) self.new.disk) }
+        ensures in_step { KeepsInStep F.held result self.old self.new }
+        ensures stays { Leaves F.held (KeepsSpoiled self.old.disk.root self.old.spoiled) self.old self.new }
+        ensures unspoiled { self.new.spoiled ≡ self.old.spoiled }
         ensures stands { IsStore (F.held self.new.folder) self.new.disk }
     {
         self.shown();
@@ -116,28 +111,26 @@ impl<F: Folder> LruDiskCache<F> {
             × (insert_verdict self.old.disk key.now (length bytes) ≡ Ok tt)
             × (self.new.disk ≡ inserted self.old.disk key.now (length bytes)) × Holds (F.held self.new.folder)
             (λ files. file_at files (self.old.disk.root ++ key.now) ≡ Some bytes)) }
-        ensures whole { Became
-            (OldOrWritten (Wrote W.FnOnce (λ v. v.items) with (Ok tt)) (self.old.disk.root ++ key.now))
-            (F.held self.old.folder).files (F.held self.new.folder).files }
+        ensures whole { Leaves F.held (OldOrWritten (Wrote W.FnOnce (λ v. v.items) with (Ok tt))
+            (self.old.disk.root ++ key.now)) self.old self.new }
         ensures fails { IfErr result
             (λ e. WithFails (Wrote W.FnOnce (λ v. v.items) with) key.now e self.old.disk self.new.disk
             (F.held self.old.folder) (F.held self.new.folder)) }
-        ensures left { OnErr result
-            (Became (Keeps self.old.disk.root self.new.disk.entries) (F.held self.old.folder).files
-            (F.held self.new.folder).files) }
-        ensures reserved { Became (KeepsReserved self.old.disk.pending) (F.held self.old.folder).files
-            (F.held self.new.folder).files }
-        ensures others { Became (ButUnder self.old.disk.root) (F.held self.old.folder).files
-            (F.held self.new.folder).files }
-        ensures removed { Became
-            (RemovedOrSame (IsBeside self.old.disk.root (self.old.disk.root ++ key.now)))
-            (F.held self.old.folder).files (F.held self.new.folder).files }
+        ensures left { OnErr result (Leaves F.held (Keeps self.old.disk.root self.new.disk.entries) self.old
+            self.new) }
+        ensures reserved { Leaves F.held (KeepsReserved self.old.disk.pending) self.old self.new }
+        ensures others { Leaves F.held (ButUnder self.old.disk.root) self.old self.new }
+        ensures removed { Leaves F.held (RemovedOrSame (IsBeside self.old.disk.root (self.old.disk.root ++
+            key.now))) self.old self.new }
         ensures steady { OnOk result ((F.held self.new.folder).faults ≡ (F.held self.old.folder).faults) }
         ensures uncounted { IfErr result
             (λ e. Uncounted e (F.held self.old.folder) (F.held self.new.folder)) }
         ensures later { (F.held self.old.folder).faults ≤ (F.held self.new.folder).faults }
-        ensures in_step { DiskInStep (F.held self.old.folder) self.old.disk
-            → OnOk result (DiskInStep (F.held self.new.folder) self.new.disk) }
+        ensures in_step { KeepsInStep F.held result self.old self.new }
+        ensures stays { Leaves F.held (ButInsert self.old.disk.root self.old.spoiled) self.old self.new }
+        ensures unspoiled { OnOk result (self.new.spoiled ≡ self.old.spoiled) }
+        ensures spoils { IfErr result (λ e. MaySpoil e self.old.spoiled self.new.spoiled
+            (F.held self.old.folder) (F.held self.new.folder)) }
         ensures stands { IsStore (F.held self.new.folder) self.new.disk }
     {
         self.shown();
@@ -163,16 +156,15 @@ impl<F: Folder> LruDiskCache<F> {
         ensures fails { IfErr result
             (λ e. LookUpFails key.now e self.old.disk self.new.disk (F.held self.old.folder)
             (F.held self.new.folder)) }
-        ensures others { Became SameAt (F.held self.old.folder).files (F.held self.new.folder).files }
-        ensures exact { OnOk result
-            (BecameBy (touched (self.old.disk.root ++ key.now)) (F.held self.old.folder).files
-            (F.held self.new.folder).files) }
+        ensures others { Leaves F.held SameAt self.old self.new }
+        ensures exact { OnOk result (Makes F.held (touched (self.old.disk.root ++ key.now)) self.old
+            self.new) }
         ensures steady { OnOk result ((F.held self.new.folder).faults ≡ (F.held self.old.folder).faults) }
         ensures uncounted { IfErr result
             (λ e. Uncounted e (F.held self.old.folder) (F.held self.new.folder)) }
         ensures later { (F.held self.old.folder).faults ≤ (F.held self.new.folder).faults }
-        ensures in_step { DiskInStep (F.held self.old.folder) self.old.disk
-            → OnOk result (DiskInStep (F.held self.new.folder) self.new.disk) }
+        ensures in_step { KeepsInStep F.held result self.old self.new }
+        ensures unspoiled { self.new.spoiled ≡ self.old.spoiled }
         ensures stands { IsStore (F.held self.new.folder) self.new.disk }
     {
         match self.get_file(key) {
@@ -193,6 +185,7 @@ impl<F: Folder> LruDiskCache<F> {
         ensures fails { IfErr result (λ e. (e ≡ Error.Memory) × (self.new.disk ≡ self.old.disk)
             × IsSome (lookup (bytes_eq key.now) self.old.disk.entries)) }
         ensures folder { F.held self.new.folder ≡ F.held self.old.folder }
+        ensures unspoiled { self.new.spoiled ≡ self.old.spoiled }
         ensures stands { IsStore (F.held self.new.folder) self.new.disk }
     {
         let Ok(key) = Text::of(self.alloc, key) else {

@@ -6,8 +6,9 @@ ghost use Rattle.std.specs.Map.{keys_of, remove_entry};
 ghost use Rattle.std.specs.Option.{option_copied};
 ghost use Rattle.std.specs.Str.{bytes_eq};
 ghost use Rattle.folders.specs.Files.{front};
-ghost use Rattle.folders.specs.Held.{Holds, Became};
+ghost use Rattle.folders.specs.Held.{Holds};
 ghost use Rattle.lru_disk_cache.specs.Entries.{Entries, total, trim};
+ghost use Rattle.lru_disk_cache.specs.Disk.{Turns};
 ghost use Rattle.lru_disk_cache.specs.Disk.{Stands, AllKeys, Keeps};
 ghost use Rattle.folders.specs.Changed.{OnlyRemoved, ButUnder, RemovedUnder, Counts};
 ghost use Rattle.lru_disk_cache.specs.Opened.{stripped, keyed, kept, opened, Shows, InStep, KeepsKept};
@@ -43,14 +44,13 @@ fn sort_one<F: Folder>(
     ensures shows { (rest : Entries) → Shows root.now (F.held folder.old)
         (good.old.items ++ (keyed root.now (file.now ∷ []) ++ rest))
         → OnOk result (Shows root.now (F.held folder.new) (good.new.items ++ rest)) }
-    ensures keeps { (rest : Entries) → Shows root.now (F.held folder.old)
-        (good.old.items ++ (keyed root.now (file.now ∷ []) ++ rest))
-        → Became (KeepsKept root.now capacity) (F.held folder.old).files (F.held folder.new).files }
+    ensures keeps { (rest : Entries) → Shows root.now (F.held folder.old) (good.old.items ++ (keyed root.now
+        (file.now ∷ []) ++ rest)) → Turns (KeepsKept root.now capacity) (F.held folder.old) (F.held
+        folder.new) }
     ensures found { ¬ (result ≡ Err FolderFault.Missing) }
-    ensures removed { OnOk result (Became OnlyRemoved (F.held folder.old).files (F.held folder.new).files) }
-    ensures others { OnOk result
-        (Became (ButUnder root.now) (F.held folder.old).files (F.held folder.new).files) }
-    ensures spares { Became (RemovedUnder root.now) (F.held folder.old).files (F.held folder.new).files }
+    ensures removed { OnOk result (Turns OnlyRemoved (F.held folder.old) (F.held folder.new)) }
+    ensures others { OnOk result (Turns (ButUnder root.now) (F.held folder.old) (F.held folder.new)) }
+    ensures spares { Turns (RemovedUnder root.now) (F.held folder.old) (F.held folder.new) }
     ensures counts { Counts result (F.held folder.old) (F.held folder.new) }
 {
     let Some(key) = stripped(root.get(), file.path.get()) else {
@@ -81,12 +81,11 @@ fn sort_out<F: Folder>(
     requires { Shows root.now (F.held folder.old) (good.old.items ++ keyed root.now found.now) }
     ensures list { OnOk result (good.new.items ≡ good.old.items ++ kept root.now capacity found.now) }
     ensures shows { OnOk result (Shows root.now (F.held folder.new) good.new.items) }
-    ensures keeps { Became (KeepsKept root.now capacity) (F.held folder.old).files (F.held folder.new).files }
+    ensures keeps { Turns (KeepsKept root.now capacity) (F.held folder.old) (F.held folder.new) }
     ensures found { ¬ (result ≡ Err FolderFault.Missing) }
-    ensures removed { OnOk result (Became OnlyRemoved (F.held folder.old).files (F.held folder.new).files) }
-    ensures others { OnOk result
-        (Became (ButUnder root.now) (F.held folder.old).files (F.held folder.new).files) }
-    ensures spares { Became (RemovedUnder root.now) (F.held folder.old).files (F.held folder.new).files }
+    ensures removed { OnOk result (Turns OnlyRemoved (F.held folder.old) (F.held folder.new)) }
+    ensures others { OnOk result (Turns (ButUnder root.now) (F.held folder.old) (F.held folder.new)) }
+    ensures spares { Turns (RemovedUnder root.now) (F.held folder.old) (F.held folder.new) }
     ensures counts { Counts result (F.held folder.old) (F.held folder.new) }
 {
     for file in found {
@@ -123,13 +122,11 @@ fn drop_old<'a, F: Folder>(
     requires { Shows root.now (F.held folder.old) good.now }
     ensures list { IfOk result (λ r. r.now ≡ trim capacity good.now) }
     ensures shows { IfOk result (λ r. Shows root.now (F.held folder.new) r.now) }
-    ensures keeps { Became (Keeps root.now (trim capacity good.now)) (F.held folder.old).files
-        (F.held folder.new).files }
+    ensures keeps { Turns (Keeps root.now (trim capacity good.now)) (F.held folder.old) (F.held folder.new) }
     ensures found { ¬ (result ≡ Err FolderFault.Missing) }
-    ensures removed { OnOk result (Became OnlyRemoved (F.held folder.old).files (F.held folder.new).files) }
-    ensures others { OnOk result
-        (Became (ButUnder root.now) (F.held folder.old).files (F.held folder.new).files) }
-    ensures spares { Became (RemovedUnder root.now) (F.held folder.old).files (F.held folder.new).files }
+    ensures removed { OnOk result (Turns OnlyRemoved (F.held folder.old) (F.held folder.new)) }
+    ensures others { OnOk result (Turns (ButUnder root.now) (F.held folder.old) (F.held folder.new)) }
+    ensures spares { Turns (RemovedUnder root.now) (F.held folder.old) (F.held folder.new) }
     ensures counts { Counts result (F.held folder.old) (F.held folder.new) }
 {
     let first = first_kept(good, capacity);
@@ -185,12 +182,10 @@ pub(crate) fn open<F: Folder>(
         (λ t. Holds (F.held folder.new) (λ files. InStep root.now files t.entries)) }
     ensures stands { IfOk result (λ t. Stands root.now (F.held folder.new) t.entries) }
     ensures cleared { IfOk result (λ t. Shows root.now (F.held folder.new) t.entries) }
-    ensures keeps { Became (KeepsOpened root.now capacity) (F.held folder.old).files
-        (F.held folder.new).files }
-    ensures removed { OnOk result (Became OnlyRemoved (F.held folder.old).files (F.held folder.new).files) }
-    ensures others { OnOk result
-        (Became (ButUnder root.now) (F.held folder.old).files (F.held folder.new).files) }
-    ensures spares { Became (RemovedUnder root.now) (F.held folder.old).files (F.held folder.new).files }
+    ensures keeps { Turns (KeepsOpened root.now capacity) (F.held folder.old) (F.held folder.new) }
+    ensures removed { OnOk result (Turns OnlyRemoved (F.held folder.old) (F.held folder.new)) }
+    ensures others { OnOk result (Turns (ButUnder root.now) (F.held folder.old) (F.held folder.new)) }
+    ensures spares { Turns (RemovedUnder root.now) (F.held folder.old) (F.held folder.new) }
     ensures counts { Counts result (F.held folder.old) (F.held folder.new) }
 {
     let alloc = root.alloc();

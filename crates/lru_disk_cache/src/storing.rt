@@ -6,13 +6,14 @@ ghost use Rattle.std.specs.Map.{lookup};
 ghost use Rattle.std.specs.Str.{bytes_eq};
 ghost use Rattle.folders.specs.Files.{file_at, size_at, put, without, moved, touched, appended};
 ghost use Rattle.folders.specs.Files.{PartAppended};
-ghost use Rattle.folders.specs.Held.{Holds, Became, BecameBy, Lacks};
+ghost use Rattle.folders.specs.Held.{Holds, Lacks};
 ghost use Rattle.lru_disk_cache.specs.Key.{is_key};
 ghost use Rattle.lru_disk_cache.specs.Entries.{total, trim, IsEnd, IsTable};
 ghost use Rattle.lru_disk_cache.specs.Adding.{files_prepared, CallFails};
+ghost use Rattle.lru_disk_cache.specs.Disk.{Turns, TurnsBy};
 ghost use Rattle.lru_disk_cache.specs.Disk.{Stands, Avoids, ButListed};
 ghost use Rattle.folders.specs.Changed.{ButAt, ButUnder, ButUnderAnd};
-ghost use Rattle.lru_disk_cache.specs.Disk.{ButThese, IsTemp, Keeps, Drops, stored, staying, dropped};
+ghost use Rattle.lru_disk_cache.specs.Disk.{ButThese, IsKeyless, Keeps, Drops, stored, staying, dropped};
 ghost use Rattle.folders.specs.Changed.{Counts};
 ghost use Rattle.lru_disk_cache.specs.Disk.{without_each, files_placed, files_stored, without_key, Left};
 ghost use Rattle.folders.specs.Changed.{OnlyRemoved, RemovedAt, SameAt, RemovedOrSame, IsNeither};
@@ -48,23 +49,16 @@ pub(crate) fn remove_file<F: Folder>(
     key: &Text,
 ) -> Result<(), FolderFault>
     ensures found { ¬ (result ≡ Err FolderFault.Missing) }
-    ensures exact { OnOk result (Became (λ old new. new ≡ without (root.now ++ key.now) old)
-        (F.held folder.old).files (F.held folder.new).files) }
+    ensures exact { OnOk result (Turns (λ old new. new ≡ without (root.now ++ key.now) old) (F.held
+        folder.old) (F.held folder.new)) }
     ensures gone { OnOk result (Holds (F.held folder.new) (Lacks (root.now ++ key.now))) }
-    ensures removed { OnOk result (Became OnlyRemoved (F.held folder.old).files (F.held folder.new).files) }
-    ensures others { Became (ButAt (root.now ++ key.now)) (F.held folder.old).files
-        (F.held folder.new).files }
-    ensures part { Became (RemovedAt (root.now ++ key.now)) (F.held folder.old).files
-        (F.held folder.new).files }
+    ensures removed { OnOk result (Turns OnlyRemoved (F.held folder.old) (F.held folder.new)) }
+    ensures others { Turns (ButAt (root.now ++ key.now)) (F.held folder.old) (F.held folder.new) }
+    ensures part { Turns (RemovedAt (root.now ++ key.now)) (F.held folder.old) (F.held folder.new) }
     ensures counts { Counts result (F.held folder.old) (F.held folder.new) }
 {
     let path = path_of(root, key)?;
-    match folder.remove(path.get()) {
-        Ok(()) => Ok(()),
-        Err(FolderFault::Missing) => Ok(()),
-        Err(FolderFault::Failed) => Err(FolderFault::Failed),
-        Err(FolderFault::Memory) => Err(FolderFault::Memory),
-    }
+    remove_at(folder, path.get())
 }
 
 /// How many bytes a file has.
@@ -84,14 +78,13 @@ pub(crate) fn measure<F: Folder>(folder: &mut F, path: &str) -> error::Result<u6
 
 /// Adds bytes at the end of a file.
 pub(crate) fn add_to<F: Folder>(folder: &mut F, path: &str, bytes: &[u8]) -> error::Result<()>
-    ensures ok { OnOk result (BecameBy (appended path.now bytes.now) (F.held folder.old).files
-        (F.held folder.new).files) }
-    ensures part { OnErr result (Became (PartAppended path.now bytes.now) (F.held folder.old).files
-        (F.held folder.new).files) }
+    ensures ok { OnOk result (TurnsBy (appended path.now bytes.now) (F.held folder.old) (F.held folder.new)) }
+    ensures part { OnErr result (Turns (PartAppended path.now bytes.now) (F.held folder.old) (F.held
+        folder.new)) }
     ensures found { OnOk result (Holds (F.held folder.old) (λ files. ¬ (Lacks path.now files))) }
-    ensures others { Became (ButAt path.now) (F.held folder.old).files (F.held folder.new).files }
-    ensures there { Became (λ old new. ¬ (Lacks path.now old) → ¬ (Lacks path.now new))
-        (F.held folder.old).files (F.held folder.new).files }
+    ensures others { Turns (ButAt path.now) (F.held folder.old) (F.held folder.new) }
+    ensures there { Turns (λ old new. ¬ (Lacks path.now old) → ¬ (Lacks path.now new)) (F.held folder.old)
+        (F.held folder.new) }
     ensures fails { IfErr result (λ e. CallFails (Lacks path.now) e (F.held folder.old) (F.held folder.new)) }
     ensures steady { OnOk result ((F.held folder.new).faults ≡ (F.held folder.old).faults) }
     ensures uncounted { IfErr result (λ e. Uncounted e (F.held folder.old) (F.held folder.new)) }
@@ -106,11 +99,11 @@ pub(crate) fn add_to<F: Folder>(folder: &mut F, path: &str, bytes: &[u8]) -> err
 /// Removes the file at a path. One that is missing already is no fault.
 pub(crate) fn remove_at<F: Folder>(folder: &mut F, path: &str) -> Result<(), FolderFault>
     ensures found { ¬ (result ≡ Err FolderFault.Missing) }
-    ensures exact { OnOk result (Became (λ old new. new ≡ without path.now old) (F.held folder.old).files
-        (F.held folder.new).files) }
+    ensures exact { OnOk result (Turns (λ old new. new ≡ without path.now old) (F.held folder.old) (F.held
+        folder.new)) }
     ensures gone { OnOk result (Holds (F.held folder.new) (Lacks path.now)) }
-    ensures others { Became (ButAt path.now) (F.held folder.old).files (F.held folder.new).files }
-    ensures part { Became (RemovedAt path.now) (F.held folder.old).files (F.held folder.new).files }
+    ensures others { Turns (ButAt path.now) (F.held folder.old) (F.held folder.new) }
+    ensures part { Turns (RemovedAt path.now) (F.held folder.old) (F.held folder.new) }
     ensures counts { Counts result (F.held folder.old) (F.held folder.new) }
 {
     match folder.remove(path) {
@@ -128,14 +121,11 @@ fn drop_first<F: Folder>(folder: &mut F, table: &mut Table, root: &Text) -> Resu
     requires stands { Stands root.now (F.held folder.old) table.old.entries }
     ensures rest { table.new ≡ record table.old { entries = drop 1 table.old.entries } }
     ensures stands { Stands root.now (F.held folder.new) table.new.entries }
-    ensures others { Became (ButListed root.now table.old.entries) (F.held folder.old).files
-        (F.held folder.new).files }
-    ensures kept { Became (Keeps root.now table.new.entries) (F.held folder.old).files
-        (F.held folder.new).files }
-    ensures exact { OnOk result
-        (BecameBy (without_each root.now (take 1 table.old.entries)) (F.held folder.old).files
-        (F.held folder.new).files) }
-    ensures removed { Became OnlyRemoved (F.held folder.old).files (F.held folder.new).files }
+    ensures others { Turns (ButListed root.now table.old.entries) (F.held folder.old) (F.held folder.new) }
+    ensures kept { Turns (Keeps root.now table.new.entries) (F.held folder.old) (F.held folder.new) }
+    ensures exact { OnOk result (TurnsBy (without_each root.now (take 1 table.old.entries)) (F.held
+        folder.old) (F.held folder.new)) }
+    ensures removed { Turns OnlyRemoved (F.held folder.old) (F.held folder.new) }
     ensures counts { Counts result (F.held folder.old) (F.held folder.new) }
 {
     let Some((key, _)) = table.take_first() else {
@@ -156,9 +146,9 @@ pub(crate) fn make_room<F: Folder>(
     ensures ok { OnOk result (table.new.entries ≡ trim limit table.old.entries) }
     ensures fits { OnOk result (total table.new.entries ≤ limit) }
     ensures drops { Drops root.now limit table.old table.new (F.held folder.old) (F.held folder.new) }
-    ensures exact { OnOk result (BecameBy (without_each root.now (dropped limit table.old.entries))
-        (F.held folder.old).files (F.held folder.new).files) }
-    ensures removed { Became OnlyRemoved (F.held folder.old).files (F.held folder.new).files }
+    ensures exact { OnOk result (TurnsBy (without_each root.now (dropped limit table.old.entries)) (F.held
+        folder.old) (F.held folder.new)) }
+    ensures removed { Turns OnlyRemoved (F.held folder.old) (F.held folder.new) }
     ensures counts { Counts result (F.held folder.old) (F.held folder.new) }
 {
     while table.size() > limit {
@@ -193,21 +183,18 @@ pub(crate) fn place<F: Folder>(
         }) }
     ensures err { OnErr result (table.new ≡ table.old) }
     ensures stands { Stands root.now (F.held folder.new) table.new.entries }
-    ensures content { OnOk result
-        (Became (λ old new. file_at new arrival.now.path ≡ file_at old arrival.now.from)
-        (F.held folder.old).files (F.held folder.new).files) }
-    ensures whole { Became (OldOrMoved arrival.now.from arrival.now.path) (F.held folder.old).files
-        (F.held folder.new).files }
-    ensures others { Became (ButUnderAnd root.now arrival.now.from) (F.held folder.old).files
-        (F.held folder.new).files }
-    ensures untouched { Became (ButThese root.now arrival.now.from arrival.now.path table.old.entries)
-        (F.held folder.old).files (F.held folder.new).files }
-    ensures kept { Became (Keeps root.now table.old.entries) (F.held folder.old).files
-        (F.held folder.new).files }
-    ensures exact { OnOk result (BecameBy (moved arrival.now.from arrival.now.path) (F.held folder.old).files
-        (F.held folder.new).files) }
-    ensures removed { Became (RemovedOrSame (IsNeither arrival.now.from arrival.now.path))
-        (F.held folder.old).files (F.held folder.new).files }
+    ensures content { OnOk result (Turns (λ old new. file_at new arrival.now.path ≡ file_at old
+        arrival.now.from) (F.held folder.old) (F.held folder.new)) }
+    ensures whole { Turns (OldOrMoved arrival.now.from arrival.now.path) (F.held folder.old) (F.held
+        folder.new) }
+    ensures others { Turns (ButUnderAnd root.now arrival.now.from) (F.held folder.old) (F.held folder.new) }
+    ensures untouched { Turns (ButThese root.now arrival.now.from arrival.now.path table.old.entries) (F.held
+        folder.old) (F.held folder.new) }
+    ensures kept { Turns (Keeps root.now table.old.entries) (F.held folder.old) (F.held folder.new) }
+    ensures exact { OnOk result (TurnsBy (moved arrival.now.from arrival.now.path) (F.held folder.old)
+        (F.held folder.new)) }
+    ensures removed { Turns (RemovedOrSame (IsNeither arrival.now.from arrival.now.path)) (F.held folder.old)
+        (F.held folder.new) }
     ensures counts { Counts result (F.held folder.old) (F.held folder.new) }
 {
     let Ok(()) = table.push(listed, arrival.size) else {
@@ -222,6 +209,14 @@ pub(crate) fn place<F: Folder>(
     }
 }
 
+/// Makes the directories above a file.
+fn make_way<F: Folder>(folder: &mut F, path: &Text) -> Result<(), FolderFault>
+    ensures files { (F.held folder.new).files ≡ (F.held folder.old).files }
+    ensures counts { Counts result (F.held folder.old) (F.held folder.new) }
+{
+    folder.make_parents(path.get())
+}
+
 /// Makes the directories above a file and writes the temporary one.
 pub(crate) fn write_temp<F: Folder>(
     folder: &mut F,
@@ -231,12 +226,11 @@ pub(crate) fn write_temp<F: Folder>(
 ) -> Result<(), FolderFault>
     ensures written { OnOk result
         (Holds (F.held folder.new) (λ files. file_at files temp.now ≡ Some bytes.now)) }
-    ensures others { Became (ButAt temp.now) (F.held folder.old).files (F.held folder.new).files }
-    ensures exact { OnOk result
-        (BecameBy (put temp.now bytes.now) (F.held folder.old).files (F.held folder.new).files) }
+    ensures others { Turns (ButAt temp.now) (F.held folder.old) (F.held folder.new) }
+    ensures exact { OnOk result (TurnsBy (put temp.now bytes.now) (F.held folder.old) (F.held folder.new)) }
     ensures counts { Counts result (F.held folder.old) (F.held folder.new) }
 {
-    folder.make_parents(path.get())?;
+    make_way(folder, path)?;
     folder.write(temp.get(), bytes)
 }
 
@@ -264,26 +258,22 @@ pub(crate) fn fill<F: Folder>(
     ensures err { OnErr result ((table.new.capacity ≡ table.old.capacity)
         × Left arrival.now.key arrival.now.limit table.old.entries table.new.entries) }
     ensures stands { Stands root.now (F.held folder.new) table.new.entries }
-    ensures content { OnOk result
-        (Became (λ old new. file_at new arrival.now.path ≡ file_at old arrival.now.from)
-        (F.held folder.old).files (F.held folder.new).files) }
-    ensures whole { Became (OldOrMoved arrival.now.from arrival.now.path) (F.held folder.old).files
-        (F.held folder.new).files }
-    ensures others { Became (ButUnderAnd root.now arrival.now.from) (F.held folder.old).files
-        (F.held folder.new).files }
-    ensures untouched { Became (ButThese root.now arrival.now.from arrival.now.path table.old.entries)
-        (F.held folder.old).files (F.held folder.new).files }
-    ensures kept { OnOk result
-        (Became (Keeps root.now (staying arrival.now.key arrival.now.limit table.old.entries))
-        (F.held folder.old).files (F.held folder.new).files) }
-    ensures left { OnErr result (Became (Keeps root.now table.new.entries) (F.held folder.old).files
-        (F.held folder.new).files) }
-    ensures exact { OnOk result
-        (BecameBy (files_placed root.now arrival.now.from arrival.now.path
-        (dropped arrival.now.limit (without_key arrival.now.key table.old.entries))) (F.held folder.old).files
-        (F.held folder.new).files) }
-    ensures removed { Became (RemovedOrSame (IsNeither arrival.now.from arrival.now.path))
-        (F.held folder.old).files (F.held folder.new).files }
+    ensures content { OnOk result (Turns (λ old new. file_at new arrival.now.path ≡ file_at old
+        arrival.now.from) (F.held folder.old) (F.held folder.new)) }
+    ensures whole { Turns (OldOrMoved arrival.now.from arrival.now.path) (F.held folder.old) (F.held
+        folder.new) }
+    ensures others { Turns (ButUnderAnd root.now arrival.now.from) (F.held folder.old) (F.held folder.new) }
+    ensures untouched { Turns (ButThese root.now arrival.now.from arrival.now.path table.old.entries) (F.held
+        folder.old) (F.held folder.new) }
+    ensures kept { OnOk result (Turns (Keeps root.now (staying arrival.now.key arrival.now.limit
+        table.old.entries)) (F.held folder.old) (F.held folder.new)) }
+    ensures left { OnErr result (Turns (Keeps root.now table.new.entries) (F.held folder.old) (F.held
+        folder.new)) }
+    ensures exact { OnOk result (TurnsBy (files_placed root.now arrival.now.from arrival.now.path (dropped
+        arrival.now.limit (without_key arrival.now.key table.old.entries))) (F.held folder.old) (F.held
+        folder.new)) }
+    ensures removed { Turns (RemovedOrSame (IsNeither arrival.now.from arrival.now.path)) (F.held folder.old)
+        (F.held folder.new) }
     ensures counts { Counts result (F.held folder.old) (F.held folder.new) }
 {
     let listed = arrival.key.copy(root.alloc())?;
@@ -303,7 +293,7 @@ pub(crate) fn store<F: Folder>(
 ) -> Result<(), FolderFault>
     requires key { is_key arrival.now.key ≡ true }
     requires path { arrival.now.path ≡ root.now ++ arrival.now.key }
-    requires temp { IsTemp root.now arrival.now.from }
+    requires temp { IsKeyless root.now arrival.now.from }
     requires size { arrival.now.size ≡ length bytes.now }
     requires fits { arrival.now.limit + arrival.now.size ≤ table.old.capacity }
     requires stands { Stands root.now (F.held folder.old) table.old.entries }
@@ -317,22 +307,19 @@ pub(crate) fn store<F: Folder>(
     ensures stands { Stands root.now (F.held folder.new) table.new.entries }
     ensures content { OnOk result
         (Holds (F.held folder.new) (λ files. file_at files arrival.now.path ≡ Some bytes.now)) }
-    ensures whole { Became (OldOr arrival.now.path bytes.now) (F.held folder.old).files
-        (F.held folder.new).files }
-    ensures others { Became (ButUnder root.now) (F.held folder.old).files (F.held folder.new).files }
-    ensures untouched { Became (ButThese root.now arrival.now.from arrival.now.path table.old.entries)
-        (F.held folder.old).files (F.held folder.new).files }
-    ensures kept { OnOk result
-        (Became (Keeps root.now (staying arrival.now.key arrival.now.limit table.old.entries))
-        (F.held folder.old).files (F.held folder.new).files) }
-    ensures left { OnErr result (Became (Keeps root.now table.new.entries) (F.held folder.old).files
-        (F.held folder.new).files) }
-    ensures exact { OnOk result
-        (BecameBy (files_stored root.now arrival.now.from arrival.now.path bytes.now
-        (dropped arrival.now.limit (without_key arrival.now.key table.old.entries))) (F.held folder.old).files
-        (F.held folder.new).files) }
-    ensures removed { Became (RemovedOrSame (IsNeither arrival.now.from arrival.now.path))
-        (F.held folder.old).files (F.held folder.new).files }
+    ensures whole { Turns (OldOr arrival.now.path bytes.now) (F.held folder.old) (F.held folder.new) }
+    ensures others { Turns (ButUnder root.now) (F.held folder.old) (F.held folder.new) }
+    ensures untouched { Turns (ButThese root.now arrival.now.from arrival.now.path table.old.entries) (F.held
+        folder.old) (F.held folder.new) }
+    ensures kept { OnOk result (Turns (Keeps root.now (staying arrival.now.key arrival.now.limit
+        table.old.entries)) (F.held folder.old) (F.held folder.new)) }
+    ensures left { OnErr result (Turns (Keeps root.now table.new.entries) (F.held folder.old) (F.held
+        folder.new)) }
+    ensures exact { OnOk result (TurnsBy (files_stored root.now arrival.now.from arrival.now.path bytes.now
+        (dropped arrival.now.limit (without_key arrival.now.key table.old.entries))) (F.held folder.old)
+        (F.held folder.new)) }
+    ensures removed { Turns (RemovedOrSame (IsNeither arrival.now.from arrival.now.path)) (F.held folder.old)
+        (F.held folder.new) }
     ensures counts { Counts result (F.held folder.old) (F.held folder.new) }
 {
     write_temp(folder, &arrival.path, &arrival.from, bytes)?;
@@ -346,7 +333,7 @@ pub(crate) fn announce<F: Folder>(
     root: &Text,
     arrival: &Arrival,
 ) -> Result<(), FolderFault>
-    requires temp { IsTemp root.now arrival.now.from }
+    requires temp { IsKeyless root.now arrival.now.from }
     requires stands { Stands root.now (F.held folder.old) table.old.entries }
     ensures ok { OnOk result (table.new.entries ≡ trim arrival.now.limit table.old.entries) }
     ensures fits { OnOk result (total table.new.entries ≤ arrival.now.limit) }
@@ -356,16 +343,14 @@ pub(crate) fn announce<F: Folder>(
     ensures stands { Stands root.now (F.held folder.new) table.new.entries }
     ensures there { OnOk result
         (Holds (F.held folder.new) (λ files. file_at files arrival.now.from ≡ Some [])) }
-    ensures others { Became (ButUnder root.now) (F.held folder.old).files (F.held folder.new).files }
-    ensures untouched { Became (ButThese root.now arrival.now.from arrival.now.from table.old.entries)
-        (F.held folder.old).files (F.held folder.new).files }
-    ensures kept { Became (Keeps root.now table.new.entries) (F.held folder.old).files
-        (F.held folder.new).files }
-    ensures exact { OnOk result
-        (BecameBy (files_prepared root.now arrival.now.from (dropped arrival.now.limit table.old.entries))
-        (F.held folder.old).files (F.held folder.new).files) }
-    ensures removed { Became (RemovedOrSame (IsNeither arrival.now.from arrival.now.from))
-        (F.held folder.old).files (F.held folder.new).files }
+    ensures others { Turns (ButUnder root.now) (F.held folder.old) (F.held folder.new) }
+    ensures untouched { Turns (ButThese root.now arrival.now.from arrival.now.from table.old.entries) (F.held
+        folder.old) (F.held folder.new) }
+    ensures kept { Turns (Keeps root.now table.new.entries) (F.held folder.old) (F.held folder.new) }
+    ensures exact { OnOk result (TurnsBy (files_prepared root.now arrival.now.from (dropped arrival.now.limit
+        table.old.entries)) (F.held folder.old) (F.held folder.new)) }
+    ensures removed { Turns (RemovedOrSame (IsNeither arrival.now.from arrival.now.from)) (F.held folder.old)
+        (F.held folder.new) }
     ensures counts { Counts result (F.held folder.old) (F.held folder.new) }
 {
     write_temp(folder, &arrival.path, &arrival.from, &[])?;
@@ -395,29 +380,25 @@ pub(crate) fn move_in<F: Folder>(
     ensures err { OnErr result ((table.new.capacity ≡ table.old.capacity)
         × Left arrival.now.key arrival.now.limit table.old.entries table.new.entries) }
     ensures stands { Stands root.now (F.held folder.new) table.new.entries }
-    ensures content { OnOk result
-        (Became (λ old new. file_at new arrival.now.path ≡ file_at old arrival.now.from)
-        (F.held folder.old).files (F.held folder.new).files) }
-    ensures whole { Became (OldOrMoved arrival.now.from arrival.now.path) (F.held folder.old).files
-        (F.held folder.new).files }
-    ensures others { Became (ButUnderAnd root.now arrival.now.from) (F.held folder.old).files
-        (F.held folder.new).files }
-    ensures untouched { Became (ButThese root.now arrival.now.from arrival.now.path table.old.entries)
-        (F.held folder.old).files (F.held folder.new).files }
-    ensures kept { OnOk result
-        (Became (Keeps root.now (staying arrival.now.key arrival.now.limit table.old.entries))
-        (F.held folder.old).files (F.held folder.new).files) }
-    ensures left { OnErr result (Became (Keeps root.now table.new.entries) (F.held folder.old).files
-        (F.held folder.new).files) }
-    ensures exact { OnOk result
-        (BecameBy (files_placed root.now arrival.now.from arrival.now.path
-        (dropped arrival.now.limit (without_key arrival.now.key table.old.entries))) (F.held folder.old).files
-        (F.held folder.new).files) }
-    ensures removed { Became (RemovedOrSame (IsNeither arrival.now.from arrival.now.path))
-        (F.held folder.old).files (F.held folder.new).files }
+    ensures content { OnOk result (Turns (λ old new. file_at new arrival.now.path ≡ file_at old
+        arrival.now.from) (F.held folder.old) (F.held folder.new)) }
+    ensures whole { Turns (OldOrMoved arrival.now.from arrival.now.path) (F.held folder.old) (F.held
+        folder.new) }
+    ensures others { Turns (ButUnderAnd root.now arrival.now.from) (F.held folder.old) (F.held folder.new) }
+    ensures untouched { Turns (ButThese root.now arrival.now.from arrival.now.path table.old.entries) (F.held
+        folder.old) (F.held folder.new) }
+    ensures kept { OnOk result (Turns (Keeps root.now (staying arrival.now.key arrival.now.limit
+        table.old.entries)) (F.held folder.old) (F.held folder.new)) }
+    ensures left { OnErr result (Turns (Keeps root.now table.new.entries) (F.held folder.old) (F.held
+        folder.new)) }
+    ensures exact { OnOk result (TurnsBy (files_placed root.now arrival.now.from arrival.now.path (dropped
+        arrival.now.limit (without_key arrival.now.key table.old.entries))) (F.held folder.old) (F.held
+        folder.new)) }
+    ensures removed { Turns (RemovedOrSame (IsNeither arrival.now.from arrival.now.path)) (F.held folder.old)
+        (F.held folder.new) }
     ensures counts { Counts result (F.held folder.old) (F.held folder.new) }
 {
-    folder.make_parents(arrival.path.get())?;
+    make_way(folder, &arrival.path)?;
     fill(folder, table, root, arrival)
 }
 
@@ -426,9 +407,8 @@ pub(crate) fn fetch<F: Folder>(folder: &mut F, path: &Text) -> Result<Vec<u8>, F
     requires { Holds (F.held folder.old) (λ files. ¬ (Lacks path.now files)) }
     ensures content { IfOk result
         (λ v. Holds (F.held folder.old) (λ files. file_at files path.now ≡ Some v.items)) }
-    ensures others { Became SameAt (F.held folder.old).files (F.held folder.new).files }
-    ensures exact { OnOk result
-        (BecameBy (touched path.now) (F.held folder.old).files (F.held folder.new).files) }
+    ensures others { Turns SameAt (F.held folder.old) (F.held folder.new) }
+    ensures exact { OnOk result (TurnsBy (touched path.now) (F.held folder.old) (F.held folder.new)) }
     ensures counts { Counts result (F.held folder.old) (F.held folder.new) }
 {
     folder.touch(path.get())?;

@@ -16,8 +16,8 @@ use Rattle.lru_metered.proofs.Lookups.{not_found}
 use Rattle.lru_disk_cache.specs.Disk.{Left, without_key}
 use Rattle.lru_disk_cache.specs.Entries.{promoted_key, IsEnd}
 use Rattle.lru_disk_cache.proofs.Trims.{absent_end, unlisted}
-use Rattle.lru_disk_cache.specs.declared.error.Error.{Error}
-use Rattle.lru_disk_cache.specs.declared.error.Error.TheVariants as error
+use Rattle.dist_types.specs.declared.cache_error.Error.{Error}
+use Rattle.dist_types.specs.declared.cache_error.Error.TheVariants as error
 use Rattle.toolchain_cache.specs.Archives.{Archives}
 use Rattle.toolchain_cache.specs.Archiving.{FindFails}
 use Rattle.build_server.specs.Books.{is_listed}

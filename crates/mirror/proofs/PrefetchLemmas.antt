@@ -10,8 +10,8 @@ use Rattle.folders.proofs.Lookups.{itself}
 use Rattle.lru_metered.proofs.Lookups.{others-none}
 use Rattle.lru_disk_cache.specs.Disk.{Left, without_key, staying}
 use Rattle.lru_disk_cache.proofs.Trims.{absent_end}
-use Rattle.lru_disk_cache.specs.declared.error.Error.{Error}
-use Rattle.lru_disk_cache.specs.declared.error.Error.TheVariants as error
+use Rattle.dist_types.specs.declared.cache_error.Error.{Error}
+use Rattle.dist_types.specs.declared.cache_error.Error.TheVariants as error
 use Rattle.toolchain_cache.specs.Archives.{Archives}
 use Rattle.build_server.specs.Books.{Books, held_for, is_listed}
 use Rattle.build_server.specs.Rules.{Adopts, Assigns, need_by}

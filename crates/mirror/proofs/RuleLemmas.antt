@@ -9,11 +9,11 @@ use Rattle.std.proofs.lemmas.Bool.Decides.{nat_tests}
 use Rattle.std.proofs.lemmas.Slice.Eq.{bytes_eq-Decides}
 use Rattle.folders.specs.Files.{Files, file_at}
 use Rattle.folders.specs.Held.{Holds}
-use Rattle.folders.specs.declared.fault.FolderFault.{FolderFault}
-use Rattle.folders.specs.declared.fault.FolderFault.TheVariants as folder
+use Rattle.dist_types.specs.declared.folder_fault.FolderFault.{FolderFault}
+use Rattle.dist_types.specs.declared.folder_fault.FolderFault.TheVariants as folder
 use Rattle.lru_disk_cache.specs.Store.{IoCause}
-use Rattle.lru_disk_cache.specs.declared.error.Error.{Error}
-use Rattle.lru_disk_cache.specs.declared.error.Error.TheVariants as error
+use Rattle.dist_types.specs.declared.cache_error.Error.{Error}
+use Rattle.dist_types.specs.declared.cache_error.Error.TheVariants as error
 use Rattle.toolchain_cache.specs.Archives.{Archives, id_of, archive_of, archive_at, archive_path, AllVerified}
 use Rattle.toolchain_cache.specs.Archiving.{FindFails, StoreFails, archive_verdict, with_archive}
 use Rattle.mirror.specs.Caches.{Cache, Looks}

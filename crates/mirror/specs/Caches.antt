@@ -7,7 +7,7 @@ use Rattle.folders.specs.Files.{file_at, front}
 use Rattle.folders.specs.Held.{Held, Holds, Became}
 use Rattle.lru_disk_cache.specs.Entries.{promoted_key}
 use Rattle.lru_disk_cache.specs.Store.{Uncounted}
-use Rattle.lru_disk_cache.specs.declared.error.Error.{Error}
+use Rattle.dist_types.specs.declared.cache_error.Error.{Error}
 use Rattle.toolchain_cache.specs.Archives.{ArchiveStore, IsArchiveStore, IsInStep, id_of, archive_path}
 use Rattle.toolchain_cache.specs.Archiving.{archive_verdict, with_archive, FindFails, StoreFails}
 use Rattle.build_server.specs.Books.{is_listed}
@@ -22,6 +22,7 @@ told_of held s = record {
   capacity = s.capacity;
   archives = s.archives;
   folder = held s.folder;
+  spoiled = s.spoiled;
 }
 
 -- what no call changes: the capacity, the path, and each file outside of the archives' directory, where files

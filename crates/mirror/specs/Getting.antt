@@ -4,10 +4,10 @@ use Rattle.dist_types.specs.declared.dialer.Asked.{Asked}
 use Rattle.dist_types.specs.declared.dialer.AskFault.{AskFault}
 use Rattle.dist_types.specs.declared.dialer.AskFault.TheVariants.{Failed, Memory as OutOfMemory}
 use Rattle.folders.specs.Held.{Held}
-use Rattle.folders.specs.declared.fault.FolderFault.TheVariants.{Missing}
-use Rattle.lru_disk_cache.specs.declared.error.Error.{Error}
-use Rattle.lru_disk_cache.specs.declared.error.Error.TheVariants.{FileNotInCache, FileTooLarge, Io}
-use Rattle.lru_disk_cache.specs.declared.error.Error.TheVariants.{Memory as NoMemory}
+use Rattle.dist_types.specs.declared.folder_fault.FolderFault.TheVariants.{Missing}
+use Rattle.dist_types.specs.declared.cache_error.Error.{Error}
+use Rattle.dist_types.specs.declared.cache_error.Error.TheVariants.{FileNotInCache, FileTooLarge, Io}
+use Rattle.dist_types.specs.declared.cache_error.Error.TheVariants.{Memory as NoMemory}
 use Rattle.toolchain_cache.specs.Archives.{ArchiveStore, id_of}
 use Rattle.mirror.specs.Asking.{Ask, IsAskedFor, Tells}
 use Rattle.mirror.specs.Caches.{Cache, told_of, Looks, Stores}

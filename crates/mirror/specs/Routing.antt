@@ -4,8 +4,8 @@ use Rattle.dist_types.specs.declared.fault.Memory as want
 use Rattle.http_head.specs.declared.request.Request.{Request}
 use Rattle.http_routes.specs.declared.reply.Response.{Response}
 use Rattle.http_routes.specs.declared.reply.Response.TheVariants.{Binary, NotFound}
-use Rattle.lru_disk_cache.specs.declared.error.Error.{Error}
-use Rattle.lru_disk_cache.specs.declared.error.Error.TheVariants.{Memory as NoMemory}
+use Rattle.dist_types.specs.declared.cache_error.Error.{Error}
+use Rattle.dist_types.specs.declared.cache_error.Error.TheVariants.{Memory as NoMemory}
 use Rattle.mirror.specs.Caches.{Cache, Looks}
 use Rattle.mirror.specs.Question.{id_asked}
 

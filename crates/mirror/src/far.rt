@@ -92,8 +92,7 @@ fn serve<G: Folder>(
     match read_head(alloc, request) {
         Ok(request) => answer(alloc, cache, &request),
         Err(HttpError::BadHead) => sent(alloc, &Response::NotFound),
-        Err(HttpError::Memory) => Err(AskFault::Memory),
-        Err(_) => unreachable!(),
+        Err(_) => Err(AskFault::Memory),
     }
 }
 

@@ -46,8 +46,7 @@ fn said_in(alloc: Global, bytes: &[u8]) -> Result<Said, Memory>
     match read_reply_head(alloc, bytes) {
         Ok(reply) => Ok(said_of(reply)),
         Err(HttpError::ParseError) => Ok(Said::Bad(0)),
-        Err(HttpError::Memory) => Err(Memory),
-        Err(_) => unreachable!(),
+        Err(_) => Err(Memory),
     }
 }
 

@@ -10,15 +10,15 @@ use Rattle.std.proofs.lemmas.List.{length-append}
 use Rattle.dist_types.specs.Cause.{Rose}
 use Rattle.dist_types.specs.declared.dialer.Asked.{Asked}
 use Rattle.dist_types.specs.declared.dialer.AskFault.{AskFault}
-use Rattle.farm_script.proofs.FieldLemmas.{choice}
+use Rattle.line_program.proofs.FirstFaultyLemmas.{choice}
 use Rattle.folders.specs.InMemory.{reliable_held, reliable_files}
 use Rattle.folders.specs.declared.reliable_folder.ReliableFolder.{ReliableFolder}
 use Rattle.http_head.specs.Head.{IsRequest}
 use Rattle.http_head.specs.WrittenRequest.{is_visible, head_with, request_text}
 use Rattle.http_head.specs.declared.written_request.Method.TheVariants.{Get}
 use Rattle.http_routes.specs.declared.reply.Response.{Response}
-use Rattle.lru_disk_cache.specs.declared.error.Error.{Error}
-use Rattle.lru_disk_cache.specs.declared.error.Error.TheVariants.{WrongDigest, FileTooLarge}
+use Rattle.dist_types.specs.declared.cache_error.Error.{Error}
+use Rattle.dist_types.specs.declared.cache_error.Error.TheVariants.{WrongDigest, FileTooLarge}
 use Rattle.dist_types.specs.declared.fault.Memory as want
 use Rattle.mirror_script.specs.declared.line.Site.TheVariants as site
 use Rattle.mirror_script.specs.declared.line.Step.TheVariants as step

@@ -4,7 +4,7 @@
 //! steps before it, or names the first faulty line, a fault that input or output counted, or want of memory, each only
 //! where it is so. The far cache is asked through the route of a mirror.
 //!
-//! The layer above is `main` alone, which uses `program::run_command_line`.
+//! The layer above is `main` alone, which hands the program to `line_program`.
 #![tactic(auto)]
 
 pub mod program;

@@ -1,34 +1,23 @@
 //! The program of a mirror: the steps of a script, over two caches in memory.
-ghost use Rattle.std.specs.Prelude.{◌≡◌, ◌≢◌, ◌≤◌, ◌⊎◌, List, [], map, string_bytes, IfOk, IfErr, IfSome};
-ghost use Rattle.std.specs.Prelude.{OnErr};
-ghost use Rattle.line_program.specs.declared.fault.FarmFault.TheVariants as fault;
-ghost use Rattle.std.specs.Vec.Iter.{into_iter_items};
-ghost use Rattle.std.specs.IoError.{error_kind};
-ghost use Rattle.line_program.specs.Report.{IsTold};
+ghost use Rattle.std.specs.Prelude.{◌≡◌, ℕ, List, [], Option, map, string_bytes, IfSome};
 ghost use Rattle.std.specs.List.{AllByRecursion};
-ghost use Rattle.mirror_script.specs.Script.{IsShort};
+ghost use Rattle.dist_types.specs.Content.{Added};
+ghost use Rattle.line_program.specs.Program.{IsEnough, HasRun, IsOutcome, call};
 ghost use Rattle.line_program.specs.Side.{side};
-ghost use Rattle.mirror_run.specs.Program.{RunsTo, IsMirrorRun, IsDone, IsAnswered, program_name};
-ghost use Rattle.mirror_run.specs.Program.{rooms_of};
+ghost use Rattle.mirror_script.specs.Script.{IsShort};
+ghost use Rattle.mirror_script.specs.declared.said.Said.{Said};
 ghost use Rattle.mirror_run.specs.LinesAsOne.{AreAsOne};
+ghost use Rattle.mirror_run.specs.Program.{RunsTo, mirror_runs, rooms_of};
 ghost use Rattle.mirror_run.specs.Sites.{StepsRun};
 ghost use Rattle.mirror_run.specs.Steps.{lines_text};
-ghost use Rattle.mirror_script.specs.declared.said.Said.{Said};
-ghost use Rattle.dist_types.specs.Content.{Added};
 
 use crate::sites::{line_of, open};
 use dist_types::sink::{Sink, write_all};
 use dist_types::source::Source;
 use line_program::fault::FarmFault;
-use line_program::input::read_input;
-use line_program::report::report;
+use line_program::program::{Program, program_main};
 use mirror_script::script::{Script, read_script};
-use std::alloc::{AllocError, Global};
-use std::env::Args;
-use std::io::{self, ErrorKind};
-
-/// What stands in front of each fault.
-const PROGRAM: &str = "sccache_mirror";
+use std::alloc::Global;
 
 /// Does the steps of a script, and writes the line of each as it is done.
 fn run_steps<K: Sink>(alloc: Global, script: &Script, out: &mut K) -> Result<(), FarmFault>
@@ -53,45 +42,30 @@ fn run_steps<K: Sink>(alloc: Global, script: &Script, out: &mut K) -> Result<(),
     Ok(())
 }
 
-/// Reads a script, and does its steps.
-fn run_script<S: Source, K: Sink>(
-    alloc: Global,
-    input: &mut S,
-    out: &mut K,
-) -> Result<(), FarmFault>
-    ensures run { IsMirrorRun result
-        (side S.left S.faults input.old) (side S.left S.faults input.new)
-        (side K.held K.faults out.old) (side K.held K.faults out.new) }
+/// Does the steps of a script that was read.
+fn run_script<K: Sink>(alloc: Global, bytes: &[u8], out: &mut K) -> Result<(), FarmFault>
+    ensures run { (content : Option (List ℕ)) → IsEnough bytes.now content
+        → HasRun mirror_runs result content (side K.held K.faults out.old) (side K.held K.faults out.new) }
 {
-    let bytes = match read_input(alloc, input) {
-        Ok(bytes) => bytes,
-        Err(fault) => return Err(fault),
-    };
-    let script = match read_script(alloc, &bytes) {
+    let script = match read_script(alloc, bytes) {
         Ok(script) => script,
         Err(fault) => return Err(fault),
     };
     run_steps(alloc, &script, out)
 }
 
-/// Does what the words say: no word may stand behind the program's name.
-fn run_words<S: Source, K: Sink>(
-    alloc: Global,
-    words: &[String],
-    input: &mut S,
-    out: &mut K,
-) -> Result<(), FarmFault>
-    ensures done { IsDone result (record {
-      words = map string_bytes words.now;
-      input = side S.left S.faults input.old;
-      input_after = side S.left S.faults input.new;
-      out = side K.held K.faults out.old;
-      out_after = side K.held K.faults out.new;
-    }) }
-{
-    match words {
-        [_name] => run_script(alloc, input, out),
-        _ => Err(FarmFault::Usage),
+/// The program of a mirror.
+pub struct Mirrored;
+
+impl Program for Mirrored {
+    ghost runs = { mirror_runs };
+
+    fn name() -> &'static str {
+        "sccache_mirror"
+    }
+
+    fn run<K: Sink>(alloc: Global, bytes: &[u8], out: &mut K) -> Result<(), FarmFault> {
+        run_script(alloc, bytes, out)
     }
 }
 
@@ -109,78 +83,14 @@ pub fn mirror_main<S: Source, K: Sink, E: Sink>(
     // 0: each step's line was written, and no more, and no fault is told. 1: the first faulty line is named. 2: there
     // are words. 3: memory ran out. 4: input failed. 5: out failed. Each from 1 to 5 has its cause in this call, and
     // errs has its text; or it is 5, errs failed and has a front of that text.
-    ensures answered { IsAnswered result (record {
-      words = map string_bytes words.now;
-      input = side S.left S.faults input.old;
-      input_after = side S.left S.faults input.new;
-      out = side K.held K.faults out.old;
-      out_after = side K.held K.faults out.new;
-    }) (side E.held E.faults errs.old) (side E.held E.faults errs.new) }
-    // There is no other status.
-    ensures statuses { result ≤ 5 }
-    // A fault of input comes before what its bytes say, and out and errs fail in no status but 5.
-    ensures order { result ≢ 4 → result ≢ 5 → S.faults input.new ≡ S.faults input.old }
-    ensures counts { result ≢ 5
-        → (K.faults out.new ≡ K.faults out.old) × (E.faults errs.new ≡ E.faults errs.old) }
+    ensures outcome { IsOutcome mirror_runs result (call (map string_bytes words.now)
+        (side S.left S.faults input.old) (side K.held K.faults out.old)
+        (side S.left S.faults input.new) (side K.held K.faults out.new))
+        (side E.held E.faults errs.old) (side E.held E.faults errs.new) }
     // Where no ask is lost, no reply is made up, and there is room for all that is put, each get has the line of one
     // cache that took all of it.
     ensures as_one { result ≡ 0 → IfSome (S.left input.old) (λ bytes. (ls : List Said) × (run : RunsTo bytes ls [])
         × Added (lines_text ls) (K.held out.old) (K.held out.new) × AreAsOne run.script ls) }
 {
-    let done = run_words(alloc, words, input, out);
-    report(alloc, PROGRAM, done, errs)
-}
-
-/// The fault of a command line that the system did not give as words.
-fn words_fault(kind: ErrorKind) -> FarmFault
-    ensures memory { kind ≡ ErrorKind.OutOfMemory → result ≡ fault.Memory }
-    ensures usage { kind ≢ ErrorKind.OutOfMemory → result ≡ fault.Usage }
-{
-    if kind == ErrorKind::OutOfMemory {
-        FarmFault::Memory
-    } else {
-        FarmFault::Usage
-    }
-}
-
-/// The words of the command line.
-fn words_in(alloc: Global, args: Args) -> Result<Vec<String>, AllocError>
-    ensures words { IfOk result (λ words. words.items ≡ into_iter_items args) }
-{
-    args.collect(alloc)
-}
-
-/// The program over the words that the system gave, or did not give: a word that is not UTF-8 is told as words that
-/// stand where none may, and want of memory as that; then nothing but errs is touched.
-pub fn run_command_line<S: Source, K: Sink, E: Sink>(
-    alloc: Global,
-    given: io::Result<Args>,
-    input: &mut S,
-    out: &mut K,
-    errs: &mut E,
-) -> u8
-    // What `mirror_main` answers of these words, unless memory ran out before.
-    ensures given { IfOk given (λ args. IsAnswered result (record {
-      words = map string_bytes (into_iter_items args);
-      input = side S.left S.faults input.old;
-      input_after = side S.left S.faults input.new;
-      out = side K.held K.faults out.old;
-      out_after = side K.held K.faults out.new;
-    }) (side E.held E.faults errs.old) (side E.held E.faults errs.new)
-        ⊎ ((input.new ≡ input.old) × (out.new ≡ out.old) × IsTold program_name fault.Memory result
-        (side E.held E.faults errs.old) (side E.held E.faults errs.new))) }
-    // Where the system gave no words, memory ran out, or a word is not UTF-8.
-    ensures memory { IfErr given (λ e. error_kind e ≡ ErrorKind.OutOfMemory → IsTold program_name fault.Memory result
-        (side E.held E.faults errs.old) (side E.held E.faults errs.new)) }
-    ensures usage { IfErr given (λ e. error_kind e ≢ ErrorKind.OutOfMemory → IsTold program_name fault.Usage result
-        (side E.held E.faults errs.old) (side E.held E.faults errs.new)) }
-    ensures untouched { OnErr given ((input.new ≡ input.old) × (out.new ≡ out.old)) }
-{
-    match given {
-        Ok(args) => match words_in(alloc, args) {
-            Ok(words) => mirror_main(alloc, &words, input, out, errs),
-            Err(_) => report(alloc, PROGRAM, Err(FarmFault::Memory), errs),
-        },
-        Err(error) => report(alloc, PROGRAM, Err(words_fault(error.kind())), errs),
-    }
+    program_main::<Mirrored, S, K, E>(alloc, words, input, out, errs)
 }

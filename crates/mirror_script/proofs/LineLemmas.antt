@@ -23,7 +23,8 @@ use Rattle.farm_script.specs.Grammar.{IsNumber, IsHex}
 use Rattle.farm_script.proofs.VisibleLemmas.{both}
 use Rattle.farm_script.proofs.WordLemmas.{IsReader, bind_is, visible_lacks, first_word_sound, first_word_complete}
 use Rattle.farm_script.proofs.WordLemmas.{last_sound, last_complete, behind_is, behind_cases}
-use Rattle.farm_script.proofs.FieldLemmas.{number_law, hex_law, choice}
+use Rattle.line_program.proofs.FirstFaultyLemmas.{choice}
+use Rattle.farm_script.proofs.FieldLemmas.{number_law, hex_law}
 use Rattle.mirror_script.specs.Line.{id_at, capacity_at, put_at, line_behind, said_at, line_at}
 use Rattle.mirror_script.specs.Script.{IsShort}
 use Rattle.mirror_script.specs.Grammar.{site_text, IsId, IsStepLine, Spells}

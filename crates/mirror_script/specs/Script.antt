@@ -1,7 +1,8 @@
 -- A script, read line by line: what the caches take and what is done, or the first faulty line.
-use Rattle.std.specs.Prelude.{ℕ, ◌≤◌, if◌then◌else◌, List, [], ◌∷◌, ◌++◌, length, Option, Some, None}
+use Rattle.std.specs.Prelude.{ℕ, false, ◌≤◌, List, [], ◌∷◌, ◌++◌, length, Option, Some, None}
 use Rattle.std.specs.Prelude.{option_to_list, Result, Ok, Err}
-use Rattle.line_program.specs.Lines.{Judge, judged_within, lines_from, lines_in}
+use Rattle.line_program.specs.Lines.{Judge, judged_within, lines_in}
+use Rattle.line_program.specs.Reader.{Reader, judge_by}
 use Rattle.line_program.specs.declared.fault.FarmFault.{FarmFault}
 use Rattle.line_program.specs.declared.fault.FarmFault.TheVariants.{BadLine}
 use Rattle.mirror_script.specs.Line.{line_at}
@@ -35,14 +36,20 @@ with_line r (lines.Capacity Near n) = record { near = Some n; far = r.far; steps
 with_line r (lines.Capacity Far n) = record { near = r.near; far = Some n; steps = r.steps }
 with_line r (lines.Step s) = record { near = r.near; far = r.far; steps = r.steps ++ s ∷ [] }
 
--- what was read, with what the line says, where it says something and stands in its place
-abbrev pub judged : ℕ → Read → Option Line → Result Read FarmFault
-judged number r None = Err (BadLine number)
-judged number r (Some l) = if misplaced (before r) l then Err (BadLine number) else Ok (with_line r l)
+-- how a line is judged over what was read
+abbrev pub line_reader : Reader Line Read
+line_reader = record {
+  line_at = line_at;
+  scoped_at = line_at;
+  misplaced = λ r l. misplaced (before r) l;
+  duplicate = λ r l. false;
+  overlapping = λ r l. false;
+  with_line = with_line;
+}
 
 -- what was read, with a line of this text more, or why it is faulty
 abbrev pub judge : Judge Read
-judge number r text = judged number r (line_at text)
+judge = judge_by line_reader
 
 -- the same of a line with its end, which is within the limits
 abbrev pub take_line : ℕ → ℕ → Read → List ℕ → Result Read FarmFault
@@ -57,10 +64,6 @@ finished_with number None far steps = Err (BadLine number)
 -- at the end it is said what both caches take, or the number after the last line is told
 abbrev pub finished : ℕ → Read → Result Script FarmFault
 finished number r = finished_with number r.near r.far r.steps
-
--- the lines from this number on, with so much room left, behind what was read
-abbrev pub script_from : ℕ → ℕ → Read → List (List ℕ) → Result Script FarmFault
-script_from number room r ps = lines_from judge finished number room r ps
 
 -- at the start
 abbrev pub nothing_read : Read

@@ -1,11 +1,12 @@
 //! Scripts, read line by line.
-ghost use Rattle.std.specs.Prelude.{◌≡◌, ◌≤◌, ◌⊎◌, length, Some, IfOk, IfErr, OnOk};
-ghost use Rattle.farm_script.specs.Script.{IsScriptAnswer};
+ghost use Rattle.std.specs.Prelude.{◌≡◌, ◌≤◌, ◌⊎◌, length, IfOk, IfErr, OnOk};
+ghost use Rattle.line_program.specs.Lines.{IsScriptAnswer};
+ghost use Rattle.line_program.specs.Reader.{onto};
 ghost use Rattle.line_program.specs.declared.fault.FarmFault.TheVariants as fault;
 ghost use Rattle.mirror_script.specs.Place.{misplaced};
 ghost use Rattle.mirror_script.specs.FirstFaulty.{IsFirstFaulty};
 ghost use Rattle.mirror_script.specs.Spelled.{SpellsScript};
-ghost use Rattle.mirror_script.specs.Script.{read_of, before, with_line, judged, take_line, finished, script};
+ghost use Rattle.mirror_script.specs.Script.{read_of, before, with_line, line_reader, take_line, finished, script};
 ghost use Rattle.mirror_script.specs.Script.{IsShort};
 ghost use Rattle.std.specs.List.{AllByRecursion};
 
@@ -77,7 +78,7 @@ fn with_line(reading: Reading, line: Line) -> Result<Reading, AllocError>
 
 /// What was read, with what a line of this number says, where it stands in its place.
 fn onto(number: u64, reading: Reading, line: Line) -> Result<Reading, FarmFault>
-    ensures { IsScriptAnswer read_of result (judged number (read_of reading) (Some line)) }
+    ensures { IsScriptAnswer read_of result (onto line_reader number (read_of reading) line) }
 {
     if is_misplaced(&reading, &line) {
         return Err(FarmFault::BadLine(number));

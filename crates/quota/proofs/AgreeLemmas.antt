@@ -21,8 +21,9 @@ use Rattle.core_rules.proofs.Lists.{map-map, filter-map, filter-filter}
 use Rattle.core_rules.proofs.RisingLemmas.{rising-push}
 use Rattle.core_rules.proofs.StepLemmas.{bare, held, booked, grown, held_stays, bookings-push, held-push}
 use Rattle.quota.specs.Holdings.{Owned, owned_after, owner_of}
-use Rattle.quota.specs.Kept.{Agree, place_of_owned, owned_new}
+use Rattle.quota.specs.Kept.{Agree, place_of_owned}
 use Rattle.quota.specs.Quota.{owner_by}
+use Rattle.quota.proofs.KeptWords.{owned_new}
 
 -- whether an entry leaves a reservation of these unended
 abbrev leaves : CoreKind → (ℕ × JobId) × ℕ → Bool

@@ -5,12 +5,13 @@ use Rattle.std.proofs.Common.{set, length, get_or, Option, Some, None, refl, ap,
 use Rattle.std.specs.Prelude.{slice_get, ◌==◌, if◌then◌else◌}
 use Rattle.std.proofs.lemmas.Bool.{eq-eqb, eqb-true}
 use Rattle.std.proofs.lemmas.List.{length-set}
-use Rattle.quota.specs.Holdings.{count_of, owned_by, owned_in, owned_of, owned_ended, row_ended}
+use Rattle.quota.specs.Holdings.{count_of, owned_by, owned_in, owned_of, owned_ended}
 use Rattle.quota.specs.Holdings.{share_ended, share_lowered, count_in, AreCounted, TakesFrom}
 use Rattle.quota.specs.declared.rows.OwnedRow.{OwnedRow}
 use Rattle.quota.specs.declared.rows.Share.{Share}
 use Rattle.quota.proofs.ListLemmas.{got_set, got_other, got_within, got_some, got_or, counted_cons, one_if}
 use Rattle.core_rules.proofs.AllLemmas.{true_false}
+use Rattle.quota.proofs.KeptWords.{row_ended}
 
 -- a share in a place of a list whose share in another place was set
 pub share_cases : (shares : List Share) (c place : ℕ) (new s : Share) (P : Type 0)

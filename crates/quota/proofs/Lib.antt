@@ -1,3 +1,4 @@
+pub mod KeptWords
 pub mod ListLemmas
 pub mod ClientLemmas
 pub mod AgreeLemmas
@@ -8,6 +9,7 @@ pub mod LinkLemmas
 pub mod EndLemmas
 pub mod QuotaLemmas
 pub mod PickedLemmas
+pub mod ReserveLemmas
 pub mod GrowLemmas
 pub mod IsolationLemmas
 pub mod SinceLemmas

@@ -27,11 +27,12 @@ use Rattle.sched_core.specs.declared.answers.Picked.TheVariants as picked
 use Rattle.quota.specs.Asked.{IsReserve, fault_of}
 use Rattle.quota.specs.Clients.{Client}
 use Rattle.quota.specs.Holdings.{Owned, Held, count_of, owner_of, owned_after}
-use Rattle.quota.specs.Kept.{Agree, AreWithin, IsKept, IsBelow, quota_of, FollowsIn, owned_picked, owned_new}
+use Rattle.quota.specs.Kept.{Agree, AreWithin, IsKept, FollowsIn, owned_picked}
 use Rattle.quota.specs.Quota.{logged_for}
 use Rattle.quota.proofs.AgreeLemmas.{agree_next, next_owned, new_owner}
 use Rattle.quota.proofs.ListLemmas.{counted_push, one_if}
 use Rattle.quota.proofs.QuotaLemmas.{made_length}
+use Rattle.quota.proofs.KeptWords.{IsBelow, quota_of, owned_new}
 
 -- what is picked has the next number, and its job's id follows
 pub record Follows (log : List CoreEntry) (base given client : ℕ) (kind : CoreKind) (p : Picked) : Type 0

@@ -15,9 +15,8 @@ use Rattle.core_rules.proofs.AllLemmas.{all-unmap, true_false}
 use Rattle.core_rules.proofs.Lists.{map-map}
 use Rattle.quota.specs.Holdings.{Owned, Held, count_of, owner_of, owned_after}
 use Rattle.core_rules.specs.Log.{Core, logged}
-use Rattle.quota.specs.Kept.{Agree, AreWithin, place_of_owned, quota_of, IsKept, IsBelow, with_made}
+use Rattle.quota.specs.Kept.{Agree, AreWithin, place_of_owned, IsKept, with_made}
 use Rattle.quota.specs.Kept.{after_made}
-use Rattle.quota.specs.Kept.{MakesNone}
 use Rattle.quota.specs.Quota.{Quota, owns, held_at, AreOwned, IsWithin, over_core}
 use Rattle.quota.specs.Asked.{refusal_at, full_at, ByRefusal, IsReserve, IsReserveAt, IsReserveFor}
 use Rattle.quota.specs.declared.fault.QuotaFault.{QuotaFault}
@@ -26,6 +25,7 @@ use Rattle.quota.specs.declared.picked.QuotaPicked.TheVariants.{Full, NoClient}
 use Rattle.quota.specs.Clients.{Client, place_of}
 use Rattle.quota.proofs.AgreeLemmas.{agree_after}
 use Rattle.quota.proofs.ListLemmas.{counted_cons, one_if}
+use Rattle.quota.proofs.KeptWords.{quota_of, IsBelow, MakesNone}
 
 count_map : {X Y : Type 0} (p : Y → Bool) (f : X → Y) (xs : List X)
     → count_by p (map f xs) ≡ count_by (λ x. p (f x)) xs

@@ -6,7 +6,7 @@ use Rattle.std.specs.Prelude.{slice_get, ◌==◌, if◌then◌else◌}
 use Rattle.std.specs.Option.{option_map}
 use Rattle.std.proofs.lemmas.Bool.{eqb-true}
 use Rattle.std.proofs.lemmas.List.{length-set}
-use Rattle.quota.specs.Holdings.{Owned, count_of, owned_by, owned_in, owned_of, owned_ended, row_ended}
+use Rattle.quota.specs.Holdings.{Owned, count_of, owned_by, owned_in, owned_of, owned_ended}
 use Rattle.quota.specs.Holdings.{share_lowered, lowered_by, count_in, AreCounted}
 use Rattle.quota.specs.Holdings.{TakesFrom}
 use Rattle.quota.specs.declared.rows.OwnedRow.{OwnedRow}
@@ -14,6 +14,7 @@ use Rattle.quota.specs.declared.rows.Share.{Share}
 use Rattle.quota.proofs.ListLemmas.{got_set, got_other, got_within, got_some, got_or, counted_set, one_if}
 use Rattle.quota.proofs.ListLemmas.{map_set, map_agree, got_map, set_same}
 use Rattle.quota.proofs.HoldingLemmas.{share_cases, read_lowered, read_ended}
+use Rattle.quota.proofs.KeptWords.{row_ended}
 
 -- the reservation of a row whose share is known
 read_at : (shares : List Share) (c : ℕ) (s : Share) (r : OwnedRow) → slice_get shares c ≡ Some s

@@ -21,12 +21,13 @@ use Rattle.core_rules.specs.Reservation.{is_accepted, is_complete}
 use Rattle.core_rules.specs.Rule.{commit_by, undo_by}
 use Rattle.quota.specs.Clients.{Client}
 use Rattle.quota.specs.Holdings.{Owned, Held, owned_after, ended_job_if}
-use Rattle.quota.specs.Kept.{IsKept, MakesNone, quota_of, with_made, after_made, owned_new, ends_undone}
+use Rattle.quota.specs.Kept.{IsKept, with_made, after_made, ends_undone}
 use Rattle.quota.specs.Kept.{ends_updated}
 use Rattle.quota.specs.Quota.{over_core, LeavesOver}
 use Rattle.quota.proofs.EndLemmas.{commit_is, undo_is, update_is, job_no}
 use Rattle.quota.proofs.ListLemmas.{got_end, got_none, got_once}
 use Rattle.quota.proofs.QuotaLemmas.{kept_after, seen_after}
+use Rattle.quota.proofs.KeptWords.{MakesNone, quota_of, owned_new}
 
 -- the entry in the place behind the log that there was is the one that was made
 pub since_some : (core new : Core) (made : Option CoreEntry) (before : ℕ) (e : CoreEntry) (old after : List

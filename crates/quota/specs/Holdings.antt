@@ -85,10 +85,7 @@ owned_in shares row = owned_by (slice_get shares row.share) row
 abbrev pub owned_of : List OwnedRow → List Share → List Owned
 owned_of rows shares = map (owned_in shares) rows
 
--- a row and a share once they are ended
-abbrev pub row_ended : OwnedRow → OwnedRow
-row_ended row = record row { unended = false }
-
+-- a share once it is ended
 abbrev pub share_ended : Share → Share
 share_ended share = record share { count = 0; over = true }
 

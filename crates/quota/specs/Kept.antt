@@ -11,8 +11,6 @@ use Rattle.core_rules.specs.declared.answers.Undone.TheVariants.{Unassigned}
 use Rattle.core_rules.specs.declared.error.SchedError.{SchedError}
 use Rattle.core_rules.specs.declared.entry.CoreEntry.{CoreEntry}
 use Rattle.core_rules.specs.declared.entry.CoreKind.{CoreKind}
-use Rattle.core_rules.specs.declared.entry.CoreKind.TheVariants.{Reserve}
-use Rattle.core_rules.specs.declared.entry.Reserved.TheVariants.{Job}
 use Rattle.core_rules.specs.Laws.{AreRising}
 use Rattle.core_rules.specs.Log.{Core, logged}
 use Rattle.core_rules.specs.Next.{place_of_booking}
@@ -61,14 +59,6 @@ abbrev pub after_made : Option CoreEntry → List Owned → List Owned
 after_made None owned = owned
 after_made (Some e) owned = map (owned_after e.kind) owned
 
--- the client in that place has less unended reservations than it may
-abbrev pub IsBelow : List Client → List Owned → ℕ → Type 0
-IsBelow clients owned place = (c : Client) → slice_get clients place ≡ Some c → count_of owned place < c.limit
-
--- what contracts see of the three together
-abbrev pub quota_of : Core → List Client → List Owned → Quota
-quota_of core clients owned = record { core = core; clients = clients; owners = map owner_of owned }
-
 -- what was picked for a client, as it is kept
 abbrev pub owned_picked : Picked → ℕ → List Owned
 owned_picked (Reserved r) client =
@@ -80,12 +70,6 @@ abbrev pub FollowsIn : Picked → Held → Type 0
 FollowsIn (Reserved r) held = r.job.0 ≡ (held.first + length held.owned) % 2 ^ 64
 FollowsIn (NoRoom standing) held = Unit {0}
 
--- the reservation that an entry of this number makes for a client, as it is kept
-abbrev pub owned_new : CoreKind → ℕ → ℕ → List Owned
-owned_new (Reserve (Job job reg forgiven)) number client =
-    record { number = number; job = job; reg = reg; client = client; unended = true } ∷ []
-owned_new other number client = []
-
 -- whether an undo that was answered so ended its reservation
 abbrev pub ends_undone : Undone → Bool
 ends_undone Unassigned = true
@@ -96,8 +80,3 @@ ends_undone other = false
 abbrev pub ends_updated : JobState → Result UpdateJobStateResult SchedError → Bool
 ends_updated state (Ok done) = is_complete state
 ends_updated state (Err e) = false
-
--- an entry makes no reservation
-abbrev pub MakesNone : Option CoreEntry → Type 0
-MakesNone None = Unit {0}
-MakesNone (Some e) = (number client : ℕ) → owned_new e.kind number client ≡ []

@@ -60,10 +60,7 @@ fn share_at(shares: &[Share], place: usize) -> Share
     requires within { place < length shares.now }
     ensures { slice_get shares.now place ≡ Some result }
 {
-    match shares.get(place) {
-        Some(share) => *share,
-        None => unreachable!(),
-    }
+    shares[place]
 }
 
 /// The share once it is over.
@@ -245,6 +242,8 @@ fn push_share(shares: &mut Vec<Share>, places: &mut SharePlaces, key: ShareKey) 
 }
 
 /// The share of a client at a registration that it did not have last, which is made where there is none.
+#[cold]
+#[inline(never)]
 fn other_share(shares: &mut Vec<Share>, places: &mut SharePlaces, key: ShareKey) -> usize
     requires room { vec_len shares.old < vec_capacity shares.old }
     requires spare { places.old.has_room ≡ true }

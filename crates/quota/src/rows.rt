@@ -1,6 +1,6 @@
 //! How it is kept whose the reservations are.
 ghost use Rattle.std.specs.Prelude.{◌≡◌};
-ghost use Rattle.quota.specs.Holdings.{row_ended, share_ended};
+ghost use Rattle.quota.specs.Holdings.{share_ended};
 
 use dist_types::ids::JobId;
 use row_index::Identified;

@@ -16,7 +16,7 @@ ghost use Rattle.quota.specs.Asked.{IsReserveFor};
 ghost use Rattle.quota.specs.Clients.{client_of, AreNamedOnce, IsRefused};
 ghost use Rattle.quota.specs.Holdings.{count_of, owner_of};
 ghost use Rattle.quota.specs.Kept.{Agree, AreWithin, IsKept, with_made, after_made};
-ghost use Rattle.quota.specs.Kept.{IsBelow, quota_of, FollowsIn, owned_picked, ends_undone, ends_updated};
+ghost use Rattle.quota.specs.Kept.{FollowsIn, owned_picked, ends_undone, ends_updated};
 ghost use Rattle.quota.specs.Quota.{held_of, over_core, logged_for, owner_by, AreOwned, IsWithin, LeavesOver};
 ghost use Rattle.quota.specs.Asked.{IsReserve, ByRefusal, refusal_at, fault_of};
 ghost use Rattle.sched_core.specs.Picked.{IsPicked};
@@ -129,18 +129,21 @@ impl<A: JobAuthorizer> QuotaState<A> {
         ensures reserved { IsReserveFor A.key_of A.token_for now client.now self.old self.new result }
         ensures within { IsWithin self.new }
     {
-        match self.clients.place_of(client) {
-            Some(place) => {
-                reserve_listed(
-                    &mut self.state,
-                    &mut self.holdings,
-                    &self.clients,
-                    now,
-                    place,
-                )
-            }
-            None => Ok(QuotaPicked::NoClient),
+        let Some(place) = self.clients.place_of(client) else {
+            return Ok(QuotaPicked::NoClient);
+        };
+        let held = self.holdings.held_at(place);
+        let limit = self.clients.limit_at(place);
+        if is_full(held, limit) {
+            return Ok(QuotaPicked::Full { held, limit });
         }
+        self.holdings.make_room()?;
+        let picked = match self.state.reserve(now) {
+            Ok(picked) => picked,
+            Err(e) => return Err(fault_of(e)),
+        };
+        note(&mut self.holdings, &picked, place);
+        Ok(QuotaPicked::Picked(picked))
     }
 
     /// Spends a reservation, as the scheduler does. It takes no memory.
@@ -294,6 +297,7 @@ fn fault_of(e: SchedError) -> QuotaFault
 }
 
 /// Notes whose the reservation is that was picked, if one was. It takes no memory.
+#[inline(always)]
 fn note(holdings: &mut Holdings, picked: &Picked, client: usize)
     requires room { holdings.old.has_room ≡ true }
     requires listed { client < holdings.old.clients }
@@ -305,65 +309,5 @@ fn note(holdings: &mut Holdings, picked: &Picked, client: usize)
     match picked {
         Picked::Reserved(r) => holdings.add(r.number(), r.job_id(), r.registration(), client),
         Picked::NoRoom(_) => (),
-    }
-}
-
-/// Reserves a job for the client in that place, which holds less than it may.
-#[inline(always)]
-fn reserve_at<A: JobAuthorizer>(
-    state: &mut SchedState<A>,
-    holdings: &mut Holdings,
-    clients: &Clients,
-    now: u64,
-    client: usize,
-) -> Result<QuotaPicked, QuotaFault>
-    requires room { holdings.old.has_room ≡ true }
-    requires kept { IsKept state.old clients.now holdings.old }
-    requires below { IsBelow clients.now holdings.old.owned client }
-    requires listed { client < length clients.now }
-    ensures reserved { IsReserve A.key_of A.token_for now client
-        (quota_of state.old clients.now holdings.old.owned) (quota_of state.new clients.now
-        holdings.new.owned)
-        result }
-    ensures kept { IsKept state.new clients.now holdings.new }
-{
-    match state.reserve(now) {
-        Ok(picked) => {
-            note(holdings, &picked, client);
-            Ok(QuotaPicked::Picked(picked))
-        }
-        Err(e) => Err(fault_of(e)),
-    }
-}
-
-/// Reserves a job for the client in that place, unless it holds as many as it may.
-#[inline(always)]
-fn reserve_listed<A: JobAuthorizer>(
-    state: &mut SchedState<A>,
-    holdings: &mut Holdings,
-    clients: &Clients,
-    now: u64,
-    client: usize,
-) -> Result<QuotaPicked, QuotaFault>
-    requires kept { IsKept state.old clients.now holdings.old }
-    requires listed { client < length clients.now }
-    ensures reserved { ByRefusal (refusal_at (quota_of state.old clients.now holdings.old.owned) (Some
-        client))
-        (quota_of state.old clients.now holdings.old.owned) (quota_of state.new clients.now
-        holdings.new.owned)
-        result (IsReserve A.key_of A.token_for now client
-        (quota_of state.old clients.now holdings.old.owned) (quota_of state.new clients.now
-        holdings.new.owned)
-        result) }
-    ensures kept { IsKept state.new clients.now holdings.new }
-{
-    let held = holdings.held_at(client);
-    let limit = clients.limit_at(client);
-    if is_full(held, limit) {
-        return Ok(QuotaPicked::Full { held, limit });
-    }
-    match holdings.make_room() {
-        Ok(()) => reserve_at(state, holdings, clients, now, client),
-        Err(_) => Err(QuotaFault::Memory),
     }
 }

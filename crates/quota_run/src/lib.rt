@@ -5,7 +5,7 @@
 //! script, makes its calls by a `Run`, and writes one line for each event, that of its call; or it names the first
 //! faulty line, a fault that input or output counted, or want of memory, each only where it is so.
 //!
-//! The layer above is `main` alone, which uses `program::run_command_line`.
+//! The layer above is `main` alone, which hands the program to `line_program`.
 #![tactic(auto)]
 
 mod hand;

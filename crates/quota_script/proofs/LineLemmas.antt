@@ -28,7 +28,8 @@ use Rattle.farm_script.proofs.WordLemmas.{bind_is, visible_lacks, first_word_sou
 use Rattle.farm_script.proofs.WordLemmas.{field_sound, field_complete, named_sound, named_complete}
 use Rattle.farm_script.proofs.WordLemmas.{last_sound, last_complete, follow, follow_number, behind_cases}
 use Rattle.farm_script.proofs.FieldLemmas.{number_law, host_law, token_law, host_lacks, host_taken, token_lacks}
-use Rattle.farm_script.proofs.FieldLemmas.{decimal_digits, decimal_lacks, choice}
+use Rattle.line_program.proofs.FirstFaultyLemmas.{choice}
+use Rattle.farm_script.proofs.FieldLemmas.{decimal_digits, decimal_lacks}
 use Rattle.quota_script.specs.Line.{state_at, ready_at, commit_at, beat_at, update_at, kind_behind, kind_at}
 use Rattle.quota_script.specs.Line.{event_at, client_at, said_at, line_at}
 use Rattle.quota_script.specs.Grammar.{ready_text, IsCommit, IsBeat, IsUpdate, IsKind}

@@ -1,9 +1,10 @@
 -- A script, read line by line: the number of the first job, the clients and what happens, or the first faulty line.
-use Rattle.std.specs.Prelude.{ℕ, if◌then◌else◌, List, [], ◌∷◌, ◌++◌, Option, Some, None}
+use Rattle.std.specs.Prelude.{ℕ, false, List, [], ◌∷◌, ◌++◌, Option, Some, None}
 use Rattle.std.specs.Prelude.{option_to_list, Result, Ok, Err}
 use Rattle.line_program.specs.Lines.{Judge, judged_within, lines_in}
+use Rattle.line_program.specs.Reader.{Reader, judge_by}
 use Rattle.line_program.specs.declared.fault.FarmFault.{FarmFault}
-use Rattle.line_program.specs.declared.fault.FarmFault.TheVariants.{BadLine, ScopedAddress}
+use Rattle.line_program.specs.declared.fault.FarmFault.TheVariants.{BadLine}
 use Rattle.farm_script.specs.declared.lines.Scopes.TheVariants.{Refused, Taken}
 use Rattle.quota_script.specs.Line.{line_at}
 use Rattle.quota_script.specs.Place.{Client, Before, names_of, misplaced}
@@ -45,23 +46,20 @@ with_line r (lines.Client name limit) =
     record { base = r.base; clients = r.clients ++ (name, limit) ∷ []; events = r.events }
 with_line r (lines.Event e) = record { base = r.base; clients = r.clients; events = r.events ++ e ∷ [] }
 
--- what was read, with a line more, or why that line is faulty
-abbrev pub onto : ℕ → Read → Line → Result Read FarmFault
-onto number r l = if misplaced (before r) l then Err (BadLine number) else Ok (with_line r l)
-
--- why a line is faulty that is one for scopes alone, or none
-abbrev pub fault_of : ℕ → Read → Option Line → FarmFault
-fault_of number r None = BadLine number
-fault_of number r (Some l) = if misplaced (before r) l then BadLine number else ScopedAddress number
-
--- what was read, with what the line says, or why it is faulty
-abbrev pub judged : ℕ → Read → Option Line → Option Line → Result Read FarmFault
-judged number r (Some l) any = onto number r l
-judged number r None any = Err (fault_of number r any)
+-- how a line is judged over what was read
+abbrev pub line_reader : Reader Line Read
+line_reader = record {
+  line_at = line_at Refused;
+  scoped_at = line_at Taken;
+  misplaced = λ r l. misplaced (before r) l;
+  duplicate = λ r l. false;
+  overlapping = λ r l. false;
+  with_line = with_line;
+}
 
 -- what was read, with a line of this text more, or why it is faulty
 abbrev pub judge : Judge Read
-judge number r text = judged number r (line_at Refused text) (line_at Taken text)
+judge = judge_by line_reader
 
 -- the same of a line with its end, which is within the limits
 abbrev pub take_line : ℕ → ℕ → Read → List ℕ → Result Read FarmFault

@@ -1,13 +1,14 @@
 //! Scripts, read line by line.
 ghost use Rattle.std.specs.Prelude.{◌≡◌, ◌≤◌, ◌⊎◌, length, IfOk, IfErr, OnOk, false};
-ghost use Rattle.farm_script.specs.Script.{IsScriptAnswer};
 ghost use Rattle.farm_script.specs.declared.lines.Scopes.TheVariants.{Taken};
+ghost use Rattle.line_program.specs.Lines.{IsScriptAnswer};
+ghost use Rattle.line_program.specs.Reader.{onto, fault_of};
 ghost use Rattle.line_program.specs.declared.fault.FarmFault.TheVariants as fault;
 ghost use Rattle.quota_script.specs.Place.{misplaced, AreNamedOnce};
 ghost use Rattle.quota_script.specs.FirstFaulty.{IsFirstFaulty};
 ghost use Rattle.quota_script.specs.Spelled.{SpellsScript};
 ghost use Rattle.quota_script.specs.Line.{line_at};
-ghost use Rattle.quota_script.specs.Script.{read_of, said_of, before, with_line, onto, fault_of, take_line};
+ghost use Rattle.quota_script.specs.Script.{read_of, said_of, before, with_line, line_reader, take_line};
 ghost use Rattle.quota_script.specs.Script.{finished, script};
 
 use crate::clients::Clients;
@@ -95,7 +96,7 @@ fn with_line(reading: Reading, line: Line) -> Result<Reading, AllocError>
 
 /// What was read, with what a line of this number says, where it stands in its place.
 fn onto(number: u64, reading: Reading, line: Line) -> Result<Reading, FarmFault>
-    ensures { IsScriptAnswer read_of result (onto number (read_of reading) line) }
+    ensures { IsScriptAnswer read_of result (onto line_reader number (read_of reading) line) }
 {
     if is_misplaced(&reading, &line) {
         return Err(FarmFault::BadLine(number));
@@ -109,7 +110,7 @@ fn onto(number: u64, reading: Reading, line: Line) -> Result<Reading, FarmFault>
 /// Why the line of this number is faulty, whose addresses without scopes are in no line.
 fn scoped_or_bad(alloc: Global, number: u64, reading: &Reading, text: &[u8]) -> FarmFault
     ensures told { (result ≡ fault.Memory)
-        ⊎ (result ≡ fault_of number (read_of reading.now) (line_at Taken text.now)) }
+        ⊎ (result ≡ fault_of line_reader number (read_of reading.now) (line_at Taken text.now)) }
 {
     match read_line(alloc, Scopes::Taken, text) {
         Ok(line) => {

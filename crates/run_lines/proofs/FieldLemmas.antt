@@ -29,7 +29,8 @@ use Rattle.farm_entries.specs.Printed.{hex_text}
 use Rattle.run_lines.specs.Grammar.{HasHex}
 use Rattle.run_lines.specs.Fields.{lower_at}
 use Rattle.farm_script.proofs.VisibleLemmas.{both}
-use Rattle.farm_script.proofs.FieldLemmas.{number_law, addr_law, decimal_digits, decimal_lacks, choice, cond_is}
+use Rattle.line_program.proofs.FirstFaultyLemmas.{choice}
+use Rattle.farm_script.proofs.FieldLemmas.{number_law, addr_law, decimal_digits, decimal_lacks, cond_is}
 use Rattle.farm_script.proofs.WordLemmas.{IsReader, Lacks, bind_is, visible_lacks, strip_sound}
 use Rattle.farm_entries.specs.Printed.{numbers_text, jobs_text, number_text, kept_text, ended_text, age_text}
 use Rattle.farm_entries.specs.Printed.{claim_text, stage_text, on_text, ready_text}

@@ -24,7 +24,8 @@ use Rattle.farm_script.specs.Reading.{Fails}
 use Rattle.farm_script.specs.Words.{parted}
 use Rattle.farm_script.specs.Fields.{number_at}
 use Rattle.farm_script.proofs.VisibleLemmas.{both}
-use Rattle.farm_script.proofs.FieldLemmas.{number_law, decimal_digits, decimal_lacks, choice}
+use Rattle.line_program.proofs.FirstFaultyLemmas.{choice}
+use Rattle.farm_script.proofs.FieldLemmas.{number_law, decimal_digits, decimal_lacks}
 use Rattle.farm_script.proofs.WordLemmas.{IsReader, Lacks, bind_is}
 use Rattle.farm_entries.specs.Printed.{numbers_text}
 use Rattle.run_lines.specs.Grammar.{Each, Fits, AllFit}

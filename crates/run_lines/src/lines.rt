@@ -16,7 +16,7 @@ use dist_types::ids::{JobId, ServerId, ServerNonce};
 use farm_entries::entry::EntryWord;
 use farm_script::event::Event;
 use farm_script::fields::{number, number_field};
-use farm_script::lines::{Line, Scopes, read_line};
+use farm_script::lines::{Line, Scopes, line_with};
 use farm_script::words::{first_word, strip};
 use farm_text::text::Kind;
 use line_program::fault::LineFault;
@@ -86,7 +86,7 @@ fn event_text(alloc: Global, event: &Event) -> Result<String, AllocError>
 fn script_event(alloc: Global, text: &[u8]) -> Result<Event, LineFault>
     ensures { IsLineAnswer (λ x. x) result (script_event_at text.now) }
 {
-    match read_line(alloc, Scopes::Refused, text)? {
+    match line_with(alloc, Scopes::Refused, text)? {
         Line::Event(event) => Ok(event),
         Line::Setup(_) => Err(LineFault::Bad),
         Line::Skip => Err(LineFault::Bad),

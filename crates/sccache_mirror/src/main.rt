@@ -3,7 +3,8 @@
 
 use dist_types::sink::StdSink;
 use dist_types::source::StdSource;
-use mirror_run::program::run_command_line;
+use line_program::program::run_command_line;
+use mirror_run::program::Mirrored;
 use std::env;
 use std::process::ExitCode;
 
@@ -12,6 +13,12 @@ fn main(rt: HostRuntime) -> ExitCode {
     let mut input = StdSource::new(rt.stdin());
     let mut out = StdSink::new(rt.stdout());
     let mut errs = StdSink::new(rt.stderr());
-    let status = run_command_line(rt.alloc(), words, &mut input, &mut out, &mut errs);
+    let status = run_command_line::<Mirrored, _, _, _>(
+        rt.alloc(),
+        words,
+        &mut input,
+        &mut out,
+        &mut errs,
+    );
     ExitCode::from(status)
 }

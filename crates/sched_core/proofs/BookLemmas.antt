@@ -10,8 +10,11 @@ use Rattle.std.specs.List.{AllByRecursion, list_any, find}
 use Rattle.std.specs.Option.{option_map}
 use Rattle.std.proofs.lemmas.Bool.{false≢true}
 use Rattle.std.proofs.lemmas.List.{length-map}
+use Rattle.dist_types.specs.declared.addr.Addr.{Addr}
 use Rattle.dist_types.specs.declared.ids.JobId.{JobId}
-use Rattle.sched_core.specs.declared.booked.BookedRow.{BookedRow}
+use Rattle.dist_types.specs.declared.results.JobState.{JobState}
+use Rattle.core_rules.specs.Advance.{advance, advance_by}
+use Rattle.reservations.specs.declared.booked.BookedRow.{BookedRow}
 use Rattle.core_rules.specs.declared.start.Start.{Start}
 use Rattle.core_rules.specs.declared.entry.CoreEntry.{CoreEntry}
 use Rattle.core_rules.specs.declared.entry.CoreKind.{CoreKind}
@@ -28,7 +31,8 @@ use Rattle.core_rules.specs.Rows.{servers_of, held_rows, open_rows, sorted_into}
 use Rattle.core_rules.specs.Next.{held_part}
 use Rattle.core_rules.specs.Prune.{prune, left, at_address}
 use Rattle.core_rules.specs.Reap.{is_reaped, reap}
-use Rattle.sched_core.specs.Own.{HasJobRoom, AreReapedApart}
+use Rattle.sched_core.specs.Books.{HasJobRoom}
+use Rattle.sched_core.specs.Changes.{AreReapedApart}
 use Rattle.core_rules.specs.declared.call.Call.{Call}
 use Rattle.core_rules.specs.declared.call.Call.TheVariants as call
 use Rattle.core_rules.specs.declared.rows.HeldRow.{HeldRow}
@@ -40,12 +44,14 @@ use Rattle.core_rules.specs.Next.{job_over, job_by}
 use Rattle.sched_core.specs.Books.{lists_next, unspent_next}
 use Rattle.core_rules.specs.Next.{place_if, served_by}
 use Rattle.core_rules.specs.Next.{held_stays, held_after, held_by}
-use Rattle.sched_core.specs.Books.{booked_after, booked_by}
+use Rattle.reservations.specs.Booked.{booked_after}
+use Rattle.sched_core.specs.Books.{booked_by}
 use Rattle.core_rules.specs.Next.{place_of_unspent, place_of_booking}
 use Rattle.core_rules.specs.Next.{UnspentRow}
-use Rattle.sched_core.specs.Booked.{AreReordered, booked_new, job_part_of, held_part_of}
-use Rattle.sched_core.specs.Booked.{held_view, job_view}
-use Rattle.sched_core.specs.Booked.{unspent_part_of, jobs_by_id, unspent_view, open_view}
+use Rattle.sched_core.specs.Books.{AreReordered}
+use Rattle.reservations.specs.Booked.{booked_new, job_part_of, held_part_of}
+use Rattle.reservations.specs.Booked.{held_view, job_view}
+use Rattle.reservations.specs.Booked.{unspent_part_of, jobs_by_id, unspent_view, open_view}
 use Rattle.core_rules.proofs.AllLemmas.{all-map, all-filter, distinct-filter}
 use Rattle.core_rules.proofs.Lists.{map-map}
 use Rattle.sched_core.proofs.KeyLemmas.{keys_next, keys-push}
@@ -94,6 +100,14 @@ pub open_found : (books : Lists) (keys : Keys) (log : List CoreEntry) (job : Job
 open_found books keys log job is =
     reorder-find (λ o. o.job) job (open_view books.booked) (open_rows log)
     (distinct_opened books.booked is.apart) is.open_ones
+
+-- so an update is answered as the log says
+pub update_answered : (books : Lists) (keys : Keys) (log : List CoreEntry) (server : Addr) (job : JobId)
+    (state : JobState) (found : Option OpenRow)
+    → AreBooks books keys log → found ≡ find (λ o. same_job o.job job) (open_view books.booked)
+    → advance_by found server state ≡ advance (open_rows log) server job state
+update_answered books keys log server job state found is asked =
+    ap (λ o. advance_by o server state) (asked ∙ open_found books keys log job is)
 
 -- a status counts the same over both
 pub counts_are : (books : Lists) (keys : Keys) (log : List CoreEntry) (now : ℕ)

@@ -7,7 +7,7 @@ use Rattle.std.specs.Option.{option_map}
 use Rattle.std.proofs.lemmas.List.{map-append}
 use Rattle.std.proofs.lemmas.List.Elements.{filter-append}
 use Rattle.dist_types.specs.declared.ids.JobId.{JobId}
-use Rattle.sched_core.specs.declared.booked.BookedRow.{BookedRow}
+use Rattle.reservations.specs.declared.booked.BookedRow.{BookedRow}
 use Rattle.core_rules.specs.declared.entry.CoreEntry.{CoreEntry}
 use Rattle.core_rules.specs.declared.rows.JobRow.{JobRow}
 use Rattle.core_rules.specs.Log.{same_job}
@@ -16,9 +16,9 @@ use Rattle.core_rules.specs.Rows.{sorted_into}
 use Rattle.core_rules.specs.Next.{held_part}
 use Rattle.core_rules.specs.Laws.{AreDistinct}
 use Rattle.core_rules.specs.Next.{held_stays, held_after, unspent_stays, unspent_by}
-use Rattle.sched_core.specs.Books.{booked_after}
-use Rattle.sched_core.specs.Booked.{booked_new, held_part_of, job_part_of, unspent_part_of}
-use Rattle.sched_core.specs.Booked.{held_view, job_view, jobs_by_id, unspent_view}
+use Rattle.reservations.specs.Booked.{booked_after}
+use Rattle.reservations.specs.Booked.{booked_new, held_part_of, job_part_of, unspent_part_of}
+use Rattle.reservations.specs.Booked.{held_view, job_view, jobs_by_id, unspent_view}
 use Rattle.core_rules.proofs.Lists.{map-map, filter-map, filter-filter, list_any-map, map-option}
 use Rattle.core_rules.proofs.AllLemmas.{and_left, and_right, both, or_left, or_right, true_false, is_false}
 use Rattle.core_rules.proofs.AllLemmas.{any-kept, any-weaker, any-all, all-both, each_same}

@@ -7,6 +7,7 @@ use Rattle.std.specs.Prelude.{◌==◌, if◌then◌else◌, find}
 use Rattle.std.specs.List.{AllByRecursion}
 use Rattle.std.specs.Option.{option_map}
 use Rattle.std.proofs.lemmas.List.{take_more}
+use Rattle.std.proofs.lemmas.List.Elements.{filter_agree}
 use Rattle.std.proofs.lemmas.List.Folds.{list_any-append}
 use Rattle.dist_types.specs.declared.addr.Addr.{Addr}
 use Rattle.dist_types.specs.declared.ids.JobId.{JobId}
@@ -283,17 +284,11 @@ update_seen e open_ones rows server job state answer served is by =
 
 -- which rows end
 
-pub filter_each : {X : Type 0} (p q : X → Bool) → ((x : X) → p x ≡ q x) → (xs : List X)
-    → filter p xs ≡ filter q xs
-filter_each p q same [] = refl
-filter_each p q same (x ∷ xs) = ap (λ b. cond b (x ∷ filter p xs) (filter p xs)) (same x)
-    ∙ ap (λ l. cond (q x) (x ∷ l) l) (filter_each p q same xs)
-
 -- one registration more ends
 pub end_more : (ns : List ℕ) (n : ℕ) (rows : List ServerRow)
     → filter (λ r. not (names (ns ++ n ∷ []) r.reg)) rows
     ≡ filter (λ r. not (n == r.reg)) (filter (λ r. not (names ns r.reg)) rows)
-end_more ns n rows = filter_each (λ r. not (names (ns ++ n ∷ []) r.reg))
+end_more ns n rows = filter_agree (λ r. not (names (ns ++ n ∷ []) r.reg))
     (λ r. not (names ns r.reg) && not (n == r.reg)) each rows
     ∙ filter-filter (λ r. not (n == r.reg)) (λ r. not (names ns r.reg)) rows
   where
@@ -358,7 +353,7 @@ pub end_both : (ns : List ℕ) (o : Option ℕ) (rows : List ServerRow)
     → filter (λ r. not (is_this o r.reg)) (filter (λ r. not (names ns r.reg)) rows)
     ≡ filter (λ r. not (names ns r.reg || is_this o r.reg)) rows
 end_both ns o rows = sym (filter-filter (λ r. not (is_this o r.reg)) (λ r. not (names ns r.reg)) rows)
-    ∙ filter_each (λ r. not (names ns r.reg) && not (is_this o r.reg))
+    ∙ filter_agree (λ r. not (names ns r.reg) && not (is_this o r.reg))
     (λ r. not (names ns r.reg || is_this o r.reg))
     (λ r. each (names ns r.reg) (is_this o r.reg)) rows
   where

@@ -15,21 +15,21 @@ use Rattle.dist_types.specs.declared.ids.JobId.{JobId}
 use Rattle.row_index.specs.Following.{HasNone, IsRowOf}
 use Rattle.core_rules.proofs.Lists.{map-map}
 use Rattle.core_rules.specs.declared.entry.CoreKind.{CoreKind}
-use Rattle.core_rules.specs.declared.entry.CoreKind.TheVariants.{Beat, Status, Drain}
+use Rattle.core_rules.specs.declared.entry.CoreKind.TheVariants.{Beat, Status}
 use Rattle.core_rules.specs.declared.rows.ServerRow.{ServerRow}
 use Rattle.core_rules.specs.declared.rows.HeldRow.{HeldRow}
 use Rattle.core_rules.specs.Log.{same_job, names_job}
 use Rattle.core_rules.specs.Standing.{ends_by}
 use Rattle.core_rules.specs.Reservation.{frees_by}
-use Rattle.sched_core.specs.declared.booked.BookedRow.{BookedRow}
+use Rattle.reservations.specs.declared.booked.BookedRow.{BookedRow}
 use Rattle.core_rules.specs.Next.{row_freed, row_stays}
 use Rattle.sched_core.specs.Books.{row_lowered}
-use Rattle.sched_core.specs.Booked.{held_part_of, held_view}
+use Rattle.reservations.specs.Booked.{held_part_of, held_view}
 use Rattle.core_rules.proofs.AllLemmas.{all-weaker, all-map, all-filter}
 use Rattle.core_rules.specs.Laws.{AreDistinct}
-use Rattle.sched_core.specs.Own.{jobs_at, row_without}
+use Rattle.sched_core.specs.Changes.{jobs_at, row_without}
 use Rattle.core_rules.proofs.AllLemmas.{same_job-eq, same_job-sym, not_true, is_false, true_false}
-use Rattle.sched_core.proofs.OwnRowLemmas.{drop_next, drop_all}
+use Rattle.reservations.proofs.OwnRowLemmas.{drop_next, drop_all}
 use Rattle.core_rules.proofs.GrowLemmas.{map-agree, map-all_agree}
 
 -- how many of the reservations at a registration pass the test of their job and registration

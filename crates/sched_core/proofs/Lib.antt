@@ -1,7 +1,5 @@
 pub mod BookLemmas
 pub mod BookedLemmas
-pub mod BookingLemmas
-pub mod ByIdLemmas
 pub mod ChangeLemmas
 pub mod FreeLemmas
 pub mod IndexLemmas
@@ -9,8 +7,6 @@ pub mod KeyLemmas
 pub mod LookLemmas
 pub mod MostLemmas
 pub mod OpenLemmas
-pub mod OwnPlaceLemmas
-pub mod OwnRowLemmas
 pub mod PlacedLemmas
 pub mod RankedLemmas
 pub mod RegistrationLemmas

@@ -1,11 +1,11 @@
 -- What a reserve costs in looks.
-use Rattle.std.proofs.Common.{◌≡◌, ◌≤◌, ℕ, suc, ◌+◌, ◌*◌, ◌^◌, List, length, max, ap, ◌∙◌, subst, arith}
+use Rattle.std.proofs.Common.{◌≡◌, ◌≤◌, ℕ, suc, ◌+◌, ◌*◌, ◌^◌, List, length, max, ap, ap₂, ◌∙◌, subst, arith}
 use Rattle.std.proofs.Math.Nat.{pow-suc}
 use Rattle.core_rules.specs.declared.start.Start.{Start}
 use Rattle.core_rules.specs.declared.entry.CoreEntry.{CoreEntry}
 use Rattle.core_rules.specs.declared.entry.Reserved.{Reserved}
 use Rattle.core_rules.specs.declared.entry.Reserved.TheVariants.{Job, NoRoom, Spent}
-use Rattle.core_rules.specs.declared.rows.ServerRow.{ServerRow}
+use Rattle.sched_core.specs.Books.{Kept, Keys, IsState}
 use Rattle.core_rules.specs.declared.call.Call.TheVariants as call
 use Rattle.core_rules.specs.Reservation.{bookings}
 use Rattle.core_rules.specs.Rows.{servers_of}
@@ -58,16 +58,18 @@ twice_power places most h few fits =
     double n = let p = pow-suc 2 n in omega (arith, p)
 
 -- so a reserve that ends once it is decided is within the bound over its log
-pub decided_looks : (start : Start) (log : List CoreEntry) (rows : List ServerRow)
-    (places now given old new : ℕ) → rows ≡ servers_of log → given ≡ start.count + length (bookings log)
-    → places ≤ 2 * max 1 (most_standing log)
-    → ((h : ℕ) → places ≤ 2 ^ h
-    → new ≤ old + decide_looks (reserved_at (pick rows) rows now start.base given) h)
+pub decided_looks : (start : Start) (log : List CoreEntry) (kept : Kept) (keys : Keys)
+    (len capacity now count made old new : ℕ) → IsState start kept keys log len capacity
+    → count ≡ start.count → made ≡ length kept.lists.booked
+    → ((h : ℕ) → kept.places ≤ 2 ^ h → new ≤ old
+    + decide_looks (reserved_at (pick kept.lists.rows) kept.lists.rows now start.base (count + made)) h)
     → (h : ℕ) → max 1 (most_standing log) ≤ 2 ^ h
     → new ≤ old + (6 * h + 8) * (1 + forgiven_count (rule (core_of start log) (call.Reserve now)).kind)
-decided_looks start log rows places now given old new stands given_is few looks h fits =
-    let made = reserved_at (pick (servers_of log)) (servers_of log) now start.base in
-    decide_bound (made (start.count + length (bookings log))) h old new
-    (subst (λ n. new ≤ old + decide_looks (made n) (h + 1)) given_is
-    (subst (λ rs. new ≤ old + decide_looks (reserved_at (pick rs) rs now start.base given) (h + 1)) stands
-    (looks (h + 1) (twice_power places (most_standing log) h few fits))))
+decided_looks start log kept keys len capacity now count made old new is count_is made_is looks h fits =
+    let entry = reserved_at (pick (servers_of log)) (servers_of log) now start.base in
+    decide_bound (entry (start.count + length (bookings log))) h old new
+    (subst (λ n. new ≤ old + decide_looks (entry n) (h + 1))
+    (ap₂ (λ m n. m + n) count_is (made_is ∙ is.books.made))
+    (subst (λ rs. new ≤ old
+    + decide_looks (reserved_at (pick rs) rs now start.base (count + made)) (h + 1)) is.books.rows
+    (looks (h + 1) (twice_power kept.places (most_standing log) h is.places fits))))

@@ -7,7 +7,7 @@ use Rattle.core_rules.specs.declared.entry.CoreEntry.{CoreEntry}
 use Rattle.core_rules.specs.Cuts.{Cut, cuts}
 use Rattle.core_rules.specs.Standing.{standing}
 use Rattle.core_rules.specs.Rows.{row_of}
-use Rattle.sched_core.specs.Booked.{unspent_view}
+use Rattle.reservations.specs.Booked.{unspent_view}
 use Rattle.sched_core.specs.Books.{Kept, Keys, IsState}
 use Rattle.sched_core.specs.Most.{fronts, greatest, most_standing}
 use Rattle.core_rules.proofs.Lists.{map-map, followed, end_cut, cuts_behind-push}

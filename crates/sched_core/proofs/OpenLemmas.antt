@@ -13,7 +13,7 @@ use Rattle.dist_types.specs.declared.ids.JobId.{JobId}
 use Rattle.dist_types.specs.declared.results.JobState.{JobState}
 use Rattle.dist_types.specs.declared.results.JobState.TheVariants.{Pending, Ready, Started, Complete}
 use Rattle.row_index.specs.Following.{HasNone, IsRowOf}
-use Rattle.sched_core.specs.declared.booked.BookedRow.{BookedRow}
+use Rattle.reservations.specs.declared.booked.BookedRow.{BookedRow}
 use Rattle.core_rules.specs.declared.entry.CoreEntry.{CoreEntry}
 use Rattle.core_rules.specs.declared.entry.CoreKind.{CoreKind}
 use Rattle.core_rules.specs.declared.entry.CoreKind.TheVariants.{Beat, Reserve, Commit, Undo, Update}
@@ -27,8 +27,9 @@ use Rattle.core_rules.specs.Job.{moves_by, closes_by}
 use Rattle.core_rules.specs.Laws.{AreDistinct}
 use Rattle.core_rules.specs.Rule.{is_initial}
 use Rattle.core_rules.specs.Next.{begins_by, state_after, open_stays, open_after, open_over, open_by}
-use Rattle.sched_core.specs.Books.{booked_after}
-use Rattle.sched_core.specs.Booked.{AreReordered, booked_new, job_part_of, open_part_of, job_view, open_view}
+use Rattle.reservations.specs.Booked.{booked_after}
+use Rattle.sched_core.specs.Books.{AreReordered}
+use Rattle.reservations.specs.Booked.{booked_new, job_part_of, open_part_of, job_view, open_view}
 use Rattle.core_rules.proofs.AllLemmas.{true_false, is_false, same_job-sym, same_job-trans, all-weaker}
 use Rattle.core_rules.proofs.AllLemmas.{all-unmap}
 use Rattle.core_rules.proofs.AllLemmas.{own_only}

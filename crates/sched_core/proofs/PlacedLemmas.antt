@@ -1,5 +1,5 @@
 -- Where the reservations of the books are, and the new one.
-use Rattle.std.proofs.Common.{◌≡◌, ℕ, List, [], ◌∷◌, ◌++◌, map, length, Some, None, refl, ap, sym, subst}
+use Rattle.std.proofs.Common.{◌≡◌, ℕ, List, [], ◌∷◌, ◌++◌, map, length, refl, ap, sym, subst}
 use Rattle.std.specs.Prelude.{option_to_list}
 use Rattle.std.specs.List.{AllByRecursion}
 use Rattle.std.specs.Option.{option_map}
@@ -13,9 +13,10 @@ use Rattle.core_rules.specs.Rows.{servers_of}
 use Rattle.core_rules.proofs.AllLemmas.{all-weaker, all-append, all-map}
 use Rattle.core_rules.proofs.KeptLemmas.{IsAtRowBy, NewJob, new_job, rows_addressed}
 use Rattle.core_rules.proofs.PlaceLemmas.{address-stays, place-stays, place-new}
-use Rattle.sched_core.specs.declared.booked.BookedRow.{BookedRow}
-use Rattle.sched_core.specs.Booked.{booked_new}
-use Rattle.sched_core.specs.Books.{IsBookedAt, booked_after, booked_by}
+use Rattle.reservations.specs.declared.booked.BookedRow.{BookedRow}
+use Rattle.reservations.specs.Booked.{booked_new}
+use Rattle.sched_core.specs.Books.{IsBookedAt, booked_by}
+use Rattle.reservations.specs.Booked.{booked_after}
 
 -- the new reservation is at the registration that its number says, and at its address
 pub booked_new_at : (log : List CoreEntry) (now : ℕ) (k : CoreKind) → IsAtRowBy k (servers_of log)

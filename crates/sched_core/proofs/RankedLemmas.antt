@@ -1,7 +1,8 @@
 -- The first rows by the keys are the pick, the forgiven and the pruned.
-use Rattle.std.proofs.Common.{◌≡◌, ℕ, ◌*◌, ◌-◌, ◌<◌, ◌≤◌, List, [], ◌∷◌, Bool, true, false, cond, ◌&&◌}
-use Rattle.std.proofs.Common.{map, filter, max}
+use Rattle.std.proofs.Common.{◌≡◌, ℕ, ◌*◌, ◌-◌, ◌<◌, ◌≤◌, List, Bool, true, false, ◌&&◌}
+use Rattle.std.proofs.Common.{map, max}
 use Rattle.std.proofs.Common.{Option, Some, None, ◌⊎◌, inl, inr, refl, ap, ◌∙◌, sym, subst, arith, eqb-true}
+use Rattle.std.proofs.lemmas.List.Elements.{filter_agree}
 use Rattle.std.proofs.lemmas.Bool.{cases_lt}
 use Rattle.std.specs.Prelude.{◌==◌, nat_lt, MatchOption}
 use Rattle.std.specs.List.{AllByRecursion}
@@ -192,18 +193,12 @@ late now moment number limit = split (cases_lt moment (now - limit))
     split (inr le) = ge_is limit (now - moment) (omega (arith, le))
         ∙ sym (less_not moment (now - limit) (nat_lt number 0) le (λ e. ge_is number 0 (omega arith)))
 
-filter_each : {X : Type 0} (p q : X → Bool) → ((x : X) → p x ≡ q x) → (xs : List X)
-    → filter p xs ≡ filter q xs
-filter_each p q same [] = refl
-filter_each p q same (x ∷ xs) = ap (λ b. cond b (x ∷ filter p xs) (filter p xs)) (same x)
-    ∙ ap (λ l. cond (q x) (x ∷ l) l) (filter_each p q same xs)
-
 -- the forgiven are those whose key by error goes before the bound
 pub forgiven_is : (now : ℕ) (rows : List ServerRow)
     → forgiven now rows ≡ early_numbers (λ r. r.reg) error_key_of moment_before
     (record { moment = now - 300000; number = 0 }) rows
 forgiven_is now rows = ap (map (λ r. r.reg)) (sym (filter-filter (λ r. is_stale now r.error) has_room rows)
-    ∙ filter_each (λ r. has_room r && is_stale now r.error)
+    ∙ filter_agree (λ r. has_room r && is_stale now r.error)
     (λ r. is_early moment_before (record { moment = now - 300000; number = 0 }) (error_key_of r)) each
     rows)
   where
@@ -224,7 +219,7 @@ pub prune_is : (now : ℕ) (rows : List ServerRow)
     → prune now rows ≡ early_numbers (λ r. r.reg) sign_key_of moment_before
     (record { moment = now - 90000; number = 0 }) rows
 prune_is now rows = ap (map (λ r. r.reg))
-    (filter_each (is_expired now) (λ r. is_early moment_before (record { moment = now - 90000; number = 0 })
+    (filter_agree (is_expired now) (λ r. is_early moment_before (record { moment = now - 90000; number = 0 })
     (sign_key_of r)) (λ r. late now r.seen r.reg 90000) rows)
 
 -- what the second tree gives where the first gives nothing

@@ -4,7 +4,7 @@ use Rattle.std.proofs.Common.{cond, not, ◌&&◌}
 use Rattle.std.proofs.Common.{map, filter, length, Option, Some, None, refl, ap, ◌∙◌, sym, subst, arith}
 use Rattle.std.proofs.Common.{get_or, drop}
 use Rattle.std.proofs.Common.{eqb-true, eq-eqb, zero, suc}
-use Rattle.std.specs.Prelude.{◌==◌, find, if◌then◌else◌, IfSome, MatchOption}
+use Rattle.std.specs.Prelude.{◌==◌, find, if◌then◌else◌, IfSome}
 use Rattle.std.specs.Prelude.{is_some, IsSome}
 use Rattle.std.specs.List.{AllByRecursion}
 use Rattle.std.proofs.Math.Seq.{drop-cons}
@@ -41,36 +41,33 @@ use Rattle.sched_core.specs.Registrations.{IsFirstFull}
 use Rattle.core_rules.proofs.AllLemmas.{is_false, true_false}
 use Rattle.core_rules.proofs.AddressLemmas.{same_is}
 use Rattle.core_rules.proofs.RowLemmas.{at_there}
-use Rattle.sched_core.proofs.ChangeLemmas.{change_is, filter_each, sound_map}
+use Rattle.sched_core.proofs.ChangeLemmas.{change_is, sound_map}
+use Rattle.std.proofs.lemmas.List.Elements.{filter_agree}
 
 -- the number, the address and the processors stay
 
+record Stays (old new : ServerRow) : Type 0 where
+  reg : new.reg ≡ old.reg
+  server : new.server ≡ old.server
+  cpus : new.cpus ≡ old.cpus
+
+stays : (change : Change) (r : ServerRow) → Stays r (row_changed change r)
+stays Lower r = record { reg = refl; server = refl; cpus = refl }
+stays Raise r = record { reg = refl; server = refl; cpus = refl }
+stays Forgive r = record { reg = refl; server = refl; cpus = refl }
+stays (Note moment) r = record { reg = refl; server = refl; cpus = refl }
+stays (See moment) r = record { reg = refl; server = refl; cpus = refl }
+stays (LowerAndSee moment) r = record { reg = refl; server = refl; cpus = refl }
+stays (Draining on) r = record { reg = refl; server = refl; cpus = refl }
+
 pub reg_kept : (change : Change) (r : ServerRow) → (row_changed change r).reg ≡ r.reg
-reg_kept Lower r = refl
-reg_kept Raise r = refl
-reg_kept Forgive r = refl
-reg_kept (Note moment) r = refl
-reg_kept (See moment) r = refl
-reg_kept (LowerAndSee moment) r = refl
-reg_kept (Draining on) r = refl
+reg_kept change r = (stays change r).reg
 
 pub server_kept : (change : Change) (r : ServerRow) → (row_changed change r).server ≡ r.server
-server_kept Lower r = refl
-server_kept Raise r = refl
-server_kept Forgive r = refl
-server_kept (Note moment) r = refl
-server_kept (See moment) r = refl
-server_kept (LowerAndSee moment) r = refl
-server_kept (Draining on) r = refl
+server_kept change r = (stays change r).server
 
 pub cpus_kept : (change : Change) (r : ServerRow) → (row_changed change r).cpus ≡ r.cpus
-cpus_kept Lower r = refl
-cpus_kept Raise r = refl
-cpus_kept Forgive r = refl
-cpus_kept (Note moment) r = refl
-cpus_kept (See moment) r = refl
-cpus_kept (LowerAndSee moment) r = refl
-cpus_kept (Draining on) r = refl
+cpus_kept change r = (stays change r).cpus
 
 pub at_kept : {X : Type 0} (f : ServerRow → X) (change : Change)
     → ((r : ServerRow) → f (row_changed change r) ≡ f r)
@@ -129,7 +126,7 @@ not_there change n (r ∷ rows) none = split (r.reg == n) refl none (not_there c
 
 pub ended_rows : (n : ℕ) (rows : List ServerRow)
     → filter (λ r. not (r.reg == n)) rows ≡ filter (λ r. not (n == r.reg)) rows
-ended_rows n rows = filter_each (λ r. not (r.reg == n)) (λ r. not (n == r.reg))
+ended_rows n rows = filter_agree (λ r. not (r.reg == n)) (λ r. not (n == r.reg))
     (λ r. ap not (turned r.reg n)) rows
 
 -- what a change costs

@@ -11,10 +11,10 @@ use Rattle.core_rules.specs.declared.entry.CoreKind.TheVariants.{Reserve, Commit
 use Rattle.core_rules.specs.declared.entry.CoreKind.TheVariants.{Status, Drain}
 use Rattle.core_rules.specs.Next.{UnspentRow}
 use Rattle.core_rules.specs.Log.{same_job}
-use Rattle.sched_core.specs.Own.{HasJobRoom}
+use Rattle.sched_core.specs.Books.{HasJobRoom}
 use Rattle.core_rules.specs.Reservation.{spends_by}
 use Rattle.core_rules.specs.Rule.{undo_by}
-use Rattle.sched_core.specs.Books.{MayRegister, key_by}
+use Rattle.sched_core.specs.Books.{MayRegister, MakesNothing, key_by}
 use Rattle.core_rules.proofs.AllLemmas.{and_right, any-weaker, same_job-sym, same_job-trans}
 
 -- an entry that spends one of the reservations
@@ -37,18 +37,25 @@ by_spender P job commits undoes (Update server j state answer) spends = absurd (
 by_spender P job commits undoes (Status pruned servers cpus jobs) spends = absurd (false≢true spends)
 by_spender P job commits undoes (Drain addr nonce on named) spends = absurd (false≢true spends)
 
+-- what makes nothing brings no key, and wants no room
+pub record IsQuiet (kind : CoreKind) : Type 0 where
+  pub key : (number : ℕ) → None ≡ key_by kind number
+  pub row : MayRegister kind → ⊥
+  pub job : (room : Option ℕ) → HasJobRoom kind room
+
+pub quiet : (kind : CoreKind) → MakesNothing kind → IsQuiet kind
+quiet (Commit job state kept) none = record { key = λ n. refl; row = λ may. may; job = λ room. tt }
+quiet (Undo job noted was_ended) none = record { key = λ n. refl; row = λ may. may; job = λ room. tt }
+quiet (Update server job state answer) none = record { key = λ n. refl; row = λ may. may; job = λ room. tt }
+quiet (Status pruned servers cpus n) none = record { key = λ n. refl; row = λ may. may; job = λ room. tt }
+quiet (Drain server nonce on named) none = record { key = λ n. refl; row = λ may. may; job = λ room. tt }
+quiet (Reserve reserved) none = absurd none
+quiet (Beat server nonce cpus key pruned reaped replaced is_new) none = absurd none
+
 module _ (job : JobId) (kind : CoreKind) (spends : spends_by kind job ≡ true) where
-  pub spends_no_key : (number : ℕ) → None ≡ key_by kind number
-  spends_no_key number = by_spender (λ k. None ≡ key_by k number) job (λ j state kept same. refl)
-      (λ j noted ended same. refl) kind spends
-
-  pub registers_none : {A : Type 0} → MayRegister kind → A
-  registers_none {A} may = by_spender (λ k. MayRegister k → A) job (λ j state kept same m. absurd m)
-      (λ j noted ended same m. absurd m) kind spends may
-
-  pub wants_no_room : (room : Option ℕ) → HasJobRoom kind room
-  wants_no_room room = by_spender (λ k. HasJobRoom k room) job (λ j state kept same. tt)
-      (λ j noted ended same. tt) kind spends
+  pub spends_quietly : IsQuiet kind
+  spends_quietly = quiet kind (by_spender MakesNothing job (λ j state kept same. tt)
+      (λ j noted ended same. tt) kind spends)
 
   -- the test of the number and the job finds one that it spends
   pub spends_one : (us : List UnspentRow) (number : ℕ)

@@ -6,7 +6,7 @@ use Rattle.row_index.specs.Following.{HasNone, IsRowOf}
 use Rattle.dist_types.specs.declared.addr.Addr.{Addr}
 use Rattle.dist_types.specs.declared.ids.JobId.{JobId}
 use Rattle.dist_types.specs.declared.results.JobState.{JobState}
-use Rattle.sched_core.specs.declared.booked.BookedRow.{BookedRow}
+use Rattle.reservations.specs.declared.booked.BookedRow.{BookedRow}
 use Rattle.sched_core.specs.declared.change.Change.TheVariants.{Lower, See, LowerAndSee}
 use Rattle.core_rules.specs.declared.entry.CoreEntry.{CoreEntry}
 use Rattle.core_rules.specs.declared.entry.CoreKind.{CoreKind}
@@ -16,13 +16,14 @@ use Rattle.core_rules.specs.declared.rows.ServerRow.{ServerRow}
 use Rattle.core_rules.specs.Log.{is_this}
 use Rattle.core_rules.specs.Standing.{is_heard}
 use Rattle.core_rules.specs.Reservation.{frees_by}
-use Rattle.sched_core.specs.Booked.{held_view, open_view, open_in}
-use Rattle.sched_core.specs.Books.{FreesNoOther, lowered_in}
+use Rattle.reservations.specs.Booked.{held_view, open_view, open_in}
+use Rattle.reservations.specs.Booked.{FreesNoOther}
+use Rattle.sched_core.specs.Books.{lowered_in}
 use Rattle.core_rules.specs.Next.{place_if, row_freed, row_stays, settled}
 use Rattle.sched_core.specs.Changes.{row_changed_at, row_changed_if}
 use Rattle.core_rules.proofs.Lists.{map-map}
 use Rattle.core_rules.proofs.GrowLemmas.{map-agree}
-use Rattle.sched_core.proofs.BookingLemmas.{asked_open, update_frees}
+use Rattle.reservations.proofs.BookingLemmas.{asked_open, update_frees}
 use Rattle.sched_core.proofs.ChangeLemmas.{keep_all, not_changed, update_seen}
 use Rattle.sched_core.proofs.FreeLemmas.{job_gone, job_freed}
 use Rattle.sched_core.proofs.RegistrationLemmas.{lowered_is}

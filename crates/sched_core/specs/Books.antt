@@ -1,31 +1,29 @@
 -- What the scheduler keeps beside its log, and what one entry does to it.
 use Rattle.std.specs.Prelude.{◌≡◌, ◌≤◌, ◌<◌, ℕ, ◌+◌, ◌-◌, ◌*◌, ◌^◌, max, List, [], ◌++◌, length, map}
-use Rattle.std.specs.Prelude.{filter, Bool, IsSome}
-use Rattle.std.specs.Prelude.{true, false, not, ◌&&◌, ◌||◌, ◌==◌, Option, Some, None, if◌then◌else◌}
-use Rattle.std.specs.Prelude.{count_by, unwrap_or, option_to_list, min, nat_eq, ◌%◌}
-use Rattle.std.specs.List.{AllByRecursion, find, list_any}
+use Rattle.std.specs.Prelude.{filter, Bool, IsSome, ◌∷◌}
+use Rattle.std.specs.Prelude.{true, ◌&&◌, ◌==◌, Option, Some, None, if◌then◌else◌}
+use Rattle.std.specs.Prelude.{option_to_list, nat_eq, ◌%◌}
+use Rattle.std.specs.List.{AllByRecursion, list_any}
 use Rattle.std.specs.Option.{option_map}
 use Rattle.row_index.specs.Lookup.{value_at}
-use Rattle.dist_types.specs.declared.addr.Addr.{Addr}
-use Rattle.dist_types.specs.declared.ids.JobId.{JobId}
-use Rattle.dist_types.specs.declared.results.JobState.{JobState}
 use Rattle.core_rules.specs.declared.start.Start.{Start}
 use Rattle.core_rules.specs.declared.entry.CoreEntry.{CoreEntry}
 use Rattle.core_rules.specs.declared.entry.CoreKind.{CoreKind}
-use Rattle.core_rules.specs.declared.entry.CoreKind.TheVariants.{Beat, Commit, Undo}
+use Rattle.core_rules.specs.declared.entry.CoreKind.TheVariants.{Beat, Reserve}
+use Rattle.core_rules.specs.declared.entry.Reserved.{Reserved}
+use Rattle.core_rules.specs.declared.entry.Reserved.TheVariants.{Job}
 use Rattle.core_rules.specs.declared.rows.ServerRow.{ServerRow}
-use Rattle.sched_core.specs.declared.booked.BookedRow.{BookedRow}
+use Rattle.reservations.specs.declared.booked.BookedRow.{BookedRow}
 use Rattle.core_rules.specs.Next.{UnspentRow}
-use Rattle.sched_core.specs.Booked.{AreReordered, booked_new, held_view, unspent_view, open_view}
-use Rattle.core_rules.specs.Log.{same_job, is_this, names}
+use Rattle.reservations.specs.Booked.{booked_new, booked_after, held_view, unspent_view, open_view}
+use Rattle.core_rules.specs.Log.{is_this, names}
 use Rattle.core_rules.specs.Standing.{Registered, standing, ends_by, address_of}
-use Rattle.core_rules.specs.Reservation.{bookings, unspent, spends_by, frees_by, claims_by}
+use Rattle.core_rules.specs.Reservation.{bookings, unspent, frees_by}
 use Rattle.core_rules.specs.Rows.{servers_of, held_rows, open_rows}
 use Rattle.core_rules.specs.Rule.{place_at}
 use Rattle.core_rules.specs.Laws.{IsLegal, AreDistinct}
 use Rattle.sched_core.specs.Most.{most_standing}
-use Rattle.core_rules.specs.Next.{job_by, place_of_booking, place_of_unspent, row_by, settled, state_after}
-use Rattle.core_rules.specs.Next.{ready_after}
+use Rattle.core_rules.specs.Next.{job_by, place_of_booking, place_of_unspent, row_by, settled}
 use Rattle.core_rules.specs.Next.{unspent_by, unspent_stays}
 
 -- the rows of the registrations that stand
@@ -97,27 +95,9 @@ key_by other number = None
 
 -- the reservations, one row each
 
--- a reservation after an entry
-abbrev pub booked_after : CoreEntry → BookedRow → BookedRow
-booked_after e b = record b {
-  state = state_after e.kind b.job b.state;
-  ready_at = ready_after e b.job b.ready_at;
-  claimed = b.claimed || claims_by e.kind b.job;
-  unspent = b.unspent && not (spends_by e.kind b.job);
-  unended = b.unended && not (frees_by e.kind b.job b.reg);
-}
-
 -- the reservation that an entry of this number makes, where its registration is one of the rows
 abbrev pub booked_by : CoreKind → List ServerRow → ℕ → ℕ → Option BookedRow
 booked_by kind rows number now = option_map booked_new (job_by kind rows number now)
-
--- an entry leaves the reservations of all other jobs as they are
-abbrev pub LeavesOthers : CoreEntry → JobId → Type 0
-LeavesOthers e job = (b : BookedRow) → (b.job.0 == job.0) ≡ false → booked_after e b ≡ b
-
--- an entry ends no reservation of another job
-abbrev pub FreesNoOther : CoreKind → JobId → Type 0
-FreesNoOther kind job = (b : BookedRow) → (b.job.0 == job.0) ≡ false → frees_by kind b.job b.reg ≡ false
 
 -- what is kept, as lists
 
@@ -172,7 +152,29 @@ abbrev pub MayRegister : CoreKind → Type 0
 MayRegister (Beat server nonce cpus key pruned reaped replaced is_new) = is_new ≡ true
 MayRegister other = ⊥
 
+-- an entry is of a call that makes no registration and no reservation
+abbrev pub MakesNothing : CoreKind → Type 0
+MakesNothing (Beat server nonce cpus key pruned reaped replaced is_new) = ⊥
+MakesNothing (Reserve reserved) = ⊥
+MakesNothing other = Unit {0}
+
+-- there is room for the reservation that a reserve makes
+abbrev pub HasRoomFor : Reserved → Option ℕ → Type 0
+HasRoomFor (Job job reg forgiven) room = room ≡ Some reg
+HasRoomFor other room = Unit {0}
+
+-- there is room for the reservation that an entry makes
+abbrev pub HasJobRoom : CoreKind → Option ℕ → Type 0
+HasJobRoom (Reserve reserved) room = HasRoomFor reserved room
+HasJobRoom other room = Unit {0}
+
 -- all of it
+
+-- one list and another that has the same elements, each as often, in whatever order
+abbrev pub AreReordered : {X : Type 0} → List X → List X → Type 0
+AreReordered [] ys = ys ≡ []
+AreReordered {X} (x ∷ xs) ys = (front : List X) × (rest : List X) × (ys ≡ front ++ x ∷ rest)
+    × AreReordered xs (front ++ rest)
 
 -- a reservation is at the registration that its number says, and at its address
 abbrev pub IsBookedAt : List CoreEntry → BookedRow → Type 0

@@ -11,19 +11,18 @@ ghost use Rattle.core_rules.specs.Rule.{is_left};
 ghost use Rattle.core_rules.specs.Reservation.{is_booked};
 ghost use Rattle.core_rules.specs.Reap.{reap};
 ghost use Rattle.core_rules.specs.Laws.{AreRising};
-ghost use Rattle.sched_core.specs.Own.{HasRoomFor, HasJobRoom, AreReapedApart};
+ghost use Rattle.sched_core.specs.Books.{HasRoomFor, HasJobRoom};
+ghost use Rattle.sched_core.specs.Changes.{AreReapedApart};
 ghost use Rattle.sched_core.specs.Books.{MayRegister, no_lists, lists_next, booked_by};
-ghost use Rattle.sched_core.specs.Booked.{held_view, jobs_by_id, unspent_view, open_view};
+ghost use Rattle.reservations.specs.Booked.{held_view, jobs_by_id, unspent_view, open_view};
 ghost use Rattle.sched_core.specs.Books.{rows_next};
 ghost use Rattle.sched_core.specs.Registrations.{AreFew, AreSoundRows, decide_looks};
 
-use crate::booked::{booked, job_made};
-use crate::bookings::Bookings;
 use crate::change::{absorb_rows, push_made};
-use crate::own::Reaping;
+use crate::decide::{self, JobIds};
+use crate::made::job_made;
 use crate::registrations::Registrations;
 use crate::rows::{Jobs, Servers};
-use crate::{decide, own};
 use core_rules::effects::is_reservation;
 use core_rules::entry::{CoreEntry, CoreKind, Reserved};
 use core_rules::rows::{OpenRow, ServerRow};
@@ -32,6 +31,9 @@ use dist_types::ids::{JobId, ServerId, ServerNonce};
 use dist_types::results::SchedulerStatusResult;
 use dist_types::rules::Rules;
 use dist_types::text::{Bytes, Items};
+use reservations::booked::booked;
+use reservations::bookings::Bookings;
+use reservations::own::{self, Reaping};
 use row_index::{NumberedLists, Steps};
 use std::alloc::{AllocError, Global};
 use std::marker::{Brand, Model};
@@ -49,7 +51,7 @@ pub struct Books {
 
 impl Model for Books {
     ghost use Rattle.sched_core.specs.Books.{Kept};
-    ghost use Rattle.sched_core.specs.Own.{AreOwn, room_for};
+    ghost use Rattle.reservations.specs.Own.{AreOwn, room_for};
 
     ghost Value = { Kept };
 
@@ -63,6 +65,19 @@ impl Model for Books {
     } };
 
     ghost invariant = { λ b. AreOwn b.bookings.rows b.own.lists };
+}
+
+/// A heartbeat: at which moment, in milliseconds, of which server, and what it says beside its key.
+#[derive(Clone, Copy, Debug)]
+pub struct Heartbeat {
+    /// The moment.
+    pub moment: u64,
+    /// The server.
+    pub server: ServerId,
+    /// Its nonce.
+    pub nonce: ServerNonce,
+    /// How many processors it has.
+    pub cpus: u64,
 }
 
 /// The reservations of a registration, if there is one.
@@ -201,22 +216,21 @@ impl Books {
         }
     }
 
-    /// What becomes of a reserve, where so many ids were given before. Refused for want of memory alone.
+    /// What becomes of a reserve, where those ids were given before. Refused for want of memory alone.
     pub fn reserved<L: Ledger>(
         &self,
         alloc: Global,
         now: u64,
-        base: u64,
-        given: u128,
+        ids: JobIds,
         steps: &mut Steps<L>,
     ) -> Result<Reserved, AllocError>
-        requires fits { given < 2 ^ 66 }
+        requires fits { ids.given < 2 ^ 66 }
         ensures reserved { IfOk result (λ r. r ≡
-            reserved_at (pick self.now.lists.rows) self.now.lists.rows now base given) }
+            reserved_at (pick self.now.lists.rows) self.now.lists.rows now ids.base ids.given) }
         ensures looks { (h : ℕ) → self.now.places ≤ 2 ^ h → steps.new ≤ steps.old + decide_looks
-            (reserved_at (pick self.now.lists.rows) self.now.lists.rows now base given) h }
+            (reserved_at (pick self.now.lists.rows) self.now.lists.rows now ids.base ids.given) h }
     {
-        decide::reserved(alloc, &self.rows, now, base, given, steps)
+        decide::reserved(alloc, &self.rows, now, ids, steps)
     }
 
     /// The entry of a heartbeat by the rules. Refused for want of memory alone.
@@ -224,15 +238,18 @@ impl Books {
         &self,
         alloc: Global,
         rules: Rules,
-        now: u64,
-        server: ServerId,
-        nonce: ServerNonce,
-        cpus: u64,
+        beat: Heartbeat,
         key: &[u8],
     ) -> Result<CoreEntry, AllocError>
-        ensures { IfOk result (λ e. e ≡
-            beat_over rules self.now.lists.rows (held_view self.now.lists.booked) now server nonce cpus key.now) }
+        ensures { IfOk result (λ e. e ≡ beat_over rules self.now.lists.rows
+            (held_view self.now.lists.booked) beat.moment beat.server beat.nonce beat.cpus key.now) }
     {
+        let Heartbeat {
+            moment: now,
+            server,
+            nonce,
+            cpus,
+        } = beat;
         let pruned = self.pruned(alloc, now)?;
         let there = self.rows.survivor(now, server);
         let reaped = self.reaped(alloc, &there, rules, now, nonce)?;

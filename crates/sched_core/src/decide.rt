@@ -60,29 +60,38 @@ pub fn counts(
     }
 }
 
-/// What becomes of a reserve, where so many ids were given before. Refused for want of memory alone. Errors
+/// The ids of the jobs: the first, and how many were given.
+#[derive(Clone, Copy, Debug)]
+pub struct JobIds {
+    /// The first.
+    pub base: u64,
+    /// How many were given.
+    pub given: u128,
+}
+
+/// What becomes of a reserve, where those ids were given before. Refused for want of memory alone. Errors
 /// are looked for only where a job is reserved.
 pub fn reserved<L: Ledger>(
     alloc: Global,
     rows: &Registrations,
     now: u64,
-    base: u64,
-    given: u128,
+    ids: JobIds,
     steps: &mut Steps<L>,
 ) -> Result<Reserved, AllocError>
-    requires fits { given < 2 ^ 66 }
-    ensures reserved { IfOk result (λ r. r ≡ reserved_at (pick rows.now.rows) rows.now.rows now base given) }
+    requires fits { ids.given < 2 ^ 66 }
+    ensures reserved { IfOk result (λ r. r ≡
+        reserved_at (pick rows.now.rows) rows.now.rows now ids.base ids.given) }
     ensures looks { (h : ℕ) → rows.now.places.count ≤ 2 ^ h → steps.new ≤ steps.old + decide_looks
-        (reserved_at (pick rows.now.rows) rows.now.rows now base given) h }
+        (reserved_at (pick rows.now.rows) rows.now.rows now ids.base ids.given) h }
 {
     let Some(row) = rows.pick(steps) else {
         return Ok(Reserved::NoRoom(rows.len() as u64));
     };
-    if given == u128::from(u64::MAX) {
+    if ids.given == u128::from(u64::MAX) {
         return Ok(Reserved::Spent);
     }
     let numbers = rows.forgiven(alloc, now, steps)?;
-    let job = JobId(((u128::from(base) + given) % 18446744073709551616) as u64);
+    let job = JobId(((u128::from(ids.base) + ids.given) % 18446744073709551616) as u64);
     Ok(Reserved::Job {
         job,
         reg: row.reg,

@@ -9,15 +9,12 @@
 
 mod addresses;
 pub mod answers;
-mod booked;
-mod bookings;
 mod books;
 mod change;
 mod decide;
 mod keys;
 mod log;
-mod own;
-mod own_places;
+mod made;
 mod places;
 mod processors;
 mod registrations;
@@ -27,3 +24,4 @@ pub mod state;
 mod tickets;
 
 pub use core_rules::{HEARTBEAT_TIMEOUT, call, effects, entry, error, laws, start, texts};
+pub use dist_types::rules::Rules;

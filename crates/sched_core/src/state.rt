@@ -19,13 +19,14 @@ ghost use Rattle.core_rules.specs.Next.{IsAtRow};
 ghost use Rattle.core_rules.specs.Answers.{updated_by};
 ghost use Rattle.core_rules.specs.Laws.{IsLegal, IsLawful, IsRule};
 ghost use Rattle.sched_core.specs.Books.{IsState, MayRegister, Kept, key_by, kept_by, keys_of};
-ghost use Rattle.sched_core.specs.Own.{HasRoomFor, HasJobRoom};
+ghost use Rattle.sched_core.specs.Books.{HasRoomFor, HasJobRoom, MakesNothing};
 ghost use Rattle.sched_core.specs.Books.{unspent_next};
-ghost use Rattle.sched_core.specs.Booked.{unspent_view};
+ghost use Rattle.reservations.specs.Booked.{unspent_view};
 ghost use Rattle.core_rules.specs.declared.call.Call.TheVariants as call;
 
 use crate::answers::Picked;
-use crate::books::Books;
+use crate::books::{Books, Heartbeat};
+use crate::decide::JobIds;
 use crate::keys::{self, RegistrationKey};
 use crate::log::CoreLog;
 use crate::reservation::Reservation;
@@ -239,11 +240,11 @@ impl<A: JobAuthorizer> SchedState<A> {
         ensures looks { (h : ℕ) → max 1 (most_standing self.old.log) ≤ 2 ^ h → steps.new ≤ steps.old +
             (6 * h + 8) * (1 + forgiven_count (rule self.old (call.Reserve now)).kind) }
     {
-        let given = u128::from(self.start.count) + u128::from(self.journal.books.made());
-        let reserved = self
-            .journal
-            .books
-            .reserved(self.alloc, now, self.start.base, given, steps)?;
+        let ids = JobIds {
+            base: self.start.base,
+            given: u128::from(self.start.count) + u128::from(self.journal.books.made()),
+        };
+        let reserved = self.journal.books.reserved(self.alloc, now, ids, steps)?;
         make_job_room(
             self.alloc,
             &mut self.journal.books,
@@ -381,15 +382,14 @@ impl<A: JobAuthorizer> SchedState<A> {
         if cpus == 0 || cpus > MOST_CPUS {
             return Err(SchedError::BadCpus(cpus));
         }
-        let entry = self.journal.books.beat(
-            self.alloc,
-            self.start.rules,
-            now,
+        let beat = Heartbeat {
+            moment: now,
             server,
             nonce,
             cpus,
-            key.key(),
-        )?;
+        };
+        let rules = self.start.rules;
+        let entry = self.journal.books.beat(self.alloc, rules, beat, key.key())?;
         let is_new = entry.is_new_beat();
         make_beat_room(self.alloc, is_new, &mut self.journal)?;
         let key = keys::key_made(is_new, self.journal.log.len() as u64, key);
@@ -417,15 +417,13 @@ impl<A: JobAuthorizer> SchedState<A> {
     {
         let found = self.journal.books.open_job(job);
         let answer = rules::answer_by(&found, server, state);
-        make_log_room(&self.journal.books, &mut self.journal.log)?;
         let kind = CoreKind::Update {
             server,
             job,
             state,
             answer,
         };
-        let entry = CoreEntry { now, kind };
-        take_uncounted::<A, Brand>(self.start, &mut self.journal, entry, None, Blank::new(1));
+        self.enter(CoreEntry { now, kind })?;
         answer_update(answer, state)
     }
 
@@ -440,8 +438,7 @@ impl<A: JobAuthorizer> SchedState<A> {
         let pruned = self.journal.books.pruned(self.alloc, now)?;
         let answer = self.journal.books.counts(&pruned, now);
         let entry = standing::status_entry(now, pruned, answer);
-        make_log_room(&self.journal.books, &mut self.journal.log)?;
-        take_uncounted::<A, Brand>(self.start, &mut self.journal, entry, None, Blank::new(1));
+        self.enter(entry)?;
         Ok(answer)
     }
 
@@ -466,9 +463,22 @@ impl<A: JobAuthorizer> SchedState<A> {
     {
         let entry = self.journal.books.drain(now, server, nonce, on);
         let known = entry.is_known();
+        self.enter(entry)?;
+        Ok(known)
+    }
+
+    /// Makes room in the log for an entry that makes nothing, and enters it. Refused for want of memory
+    /// alone.
+    #[inline(always)]
+    fn enter(&mut self, entry: CoreEntry) -> Result<(), AllocError>
+        requires rule { IsRule self.old entry }
+        requires nothing { MakesNothing entry.kind }
+        ensures entered { OnOk result (self.new ≡ logged self.old entry) }
+        ensures err { OnErr result (self.new ≡ self.old) }
+    {
         make_log_room(&self.journal.books, &mut self.journal.log)?;
         take_uncounted::<A, Brand>(self.start, &mut self.journal, entry, None, Blank::new(1));
-        Ok(known)
+        Ok(())
     }
 }
 

@@ -1,4 +1,5 @@
 pub mod EntryLemmas
+pub mod ForwardLemmas
 pub mod HeldLemmas
 pub mod HiredLemmas
 pub mod LimitLemmas

@@ -24,7 +24,7 @@ use Rattle.http_connections.specs.declared.served.Served.TheVariants.{Answered, 
 use Rattle.http_connections.proofs.AlikeLemmas.{some_same}
 use Rattle.scheduler_service.specs.ByEntries.{IsAskedAt}
 use Rattle.scheduler_service.specs.Connection.{Around, Routing, Does, IsReplied}
-use Rattle.scheduler_service.specs.OneAnswer.{MeetAlike, EndAlike, IsGivenUp}
+use Rattle.scheduler_service.specs.OneAnswer.{MeetAlike, EndAlike, IsGivenUp, HasOneAnswer}
 use Rattle.scheduler_service.specs.Replied.{Means}
 use Rattle.scheduler_service.proofs.OneAnswerLemmas.{one_answer, one_row}
 
@@ -36,9 +36,9 @@ pub limited : {K : Type 0} (may_answer : K → ℕ → List ℕ → Result ⊤ T
     → begun.left ≡ Some bytes → begun_too.left ≡ Some bytes
     → IsServedBy (IsReplied may_answer shown serves peer) begun done old new served
     → IsServedBy (IsReplied may_answer shown serves peer) begun_too done_too before after served_too
-    → served ≢ Memory → served_too ≢ Memory → MeetAlike may_answer old new before after
+    → served ≢ Memory → served_too ≢ Memory → MeetAlike may_answer shown old new before after
     → IsGivenUp begun done ⊎ (IsGivenUp begun_too done_too
-    ⊎ EndAlike begun done begun_too done_too old new before after)
+    ⊎ EndAlike may_answer shown serves peer begun done begun_too done_too old new before after)
 limited may_answer shown serves peer bytes begun done begun_too done_too old new before after Answered Answered is
     is_too a b room room_too meet =
     inr (inr (one_answer may_answer shown serves peer bytes begun done begun_too done_too old new before after
@@ -61,6 +61,20 @@ limited may_answer shown serves peer bytes begun done begun_too done_too old new
 limited may_answer shown serves peer bytes begun done begun_too done_too old new before after Memory served_too is
     is_too a b room room_too meet =
     absurd (room refl)
+
+pub has_one : {K : Type 0} (may_answer : K → ℕ → List ℕ → Result ⊤ TokenError → K → Type 0)
+    (shown : K → TokenError → List ℕ) (serves : List ℕ → Option Addr) (peer : Addr) (begun done : Shown)
+    (old new : Around K) (served : Served)
+    → IsServedBy (IsReplied may_answer shown serves peer) begun done old new served
+    → HasOneAnswer may_answer shown serves peer begun done old new served
+has_one may_answer shown serves peer begun done old new served a = record {
+  alike = λ bytes begun_too done_too before after is left left_too b meet.
+      one_answer may_answer shown serves peer bytes begun done begun_too done_too old new before after left left_too
+      (subst (λ v. IsServedBy (IsReplied may_answer shown serves peer) begun done old new v) is a) b meet;
+  limits = λ bytes begun_too done_too before after served_too left left_too b room room_too meet.
+      limited may_answer shown serves peer bytes begun done begun_too done_too old new before after served served_too
+      left left_too a b room room_too meet;
+}
 
 -- ---- calls
 
@@ -99,7 +113,7 @@ asked_lost json tc old new reply first last row place asked is new_is at failed 
     (λ h. asked.replies.0 (ap judged h)) is new_is in
     let same = the_row x.0 place row (subst (λ rows. slice_get rows place ≡ Some row) x.1 at) in
     let answer = ap (λ (z : Asked). z.answer) same ∙ failed in
-    asked.called.cause (lost_heard asked.heard x.0.answer answer x.2)
+    asked.called.cause (lost_heard asked.heard x.0.answer answer x.2.answer)
 
 does_lost : (json : Bool) (routing : Routing) (old new : Means) (reply : Response) (first last : List Asked)
     (row : Asked) (place : ℕ)

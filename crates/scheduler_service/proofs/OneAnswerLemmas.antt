@@ -1,9 +1,10 @@
 -- Two connections that meet the same, step by step.
-use Rattle.std.proofs.Common.{◌≡◌, ◌≢◌, ℕ, Bool, List, [], ◌∷◌, ◌++◌, drop, length, map, refl}
+use Rattle.std.proofs.Common.{◌≡◌, ◌≢◌, ℕ, Bool, List, [], ◌∷◌, ◌++◌, append-nil, drop, length, map, refl}
 use Rattle.std.proofs.Common.{Option, Some, None, Result, Ok, Err, inl, inr, sym, ap, ◌∙◌, subst}
 use Rattle.std.specs.Prelude.{IfSome, option_map, slice_get, ⊤}
 use Rattle.dist_types.specs.Clock.{next_moment}
 use Rattle.dist_types.specs.Content.{Added}
+use Rattle.dist_types.specs.Outgoing.{Assigned}
 use Rattle.dist_types.specs.declared.addr.Addr.{Addr}
 use Rattle.dist_types.specs.declared.dialer.Asked.{Asked}
 use Rattle.dist_types.specs.declared.ids.JobId.{JobId}
@@ -34,10 +35,10 @@ use Rattle.http_routes.specs.declared.admission.Admission.{Admission}
 use Rattle.http_routes.specs.declared.reply.Response.{Response}
 use Rattle.http_routes.specs.declared.route.SchedRouted.{SchedRouted}
 use Rattle.http_routes.specs.declared.route.SchedRouted.TheVariants as asked
-use Rattle.http_connections.specs.Alike.{HearAlike}
+use Rattle.http_connections.specs.Alike.{HearAlike, GrowAlike}
 use Rattle.http_connections.specs.Form.{form_of}
 use Rattle.http_connections.specs.Hearing.{Hears}
-use Rattle.http_connections.specs.Served.{Shown, IsServedBy}
+use Rattle.http_connections.specs.Served.{Shown, Took, IsServedBy}
 use Rattle.http_connections.specs.Taking.{TakesCut}
 use Rattle.http_connections.specs.declared.served.Served.TheVariants.{Answered}
 use Rattle.http_connections.proofs.AlikeLemmas.{some_same, drop_front, head_same, same_taken, hears_once}
@@ -46,7 +47,8 @@ use Rattle.sched.specs.Pass.{Told, Adds}
 use Rattle.sched.specs.Turn.{core_before, place_made}
 use Rattle.scheduler_service.specs.ByEntries.{IsAnswered, IsAskedAt, IsDoneAt}
 use Rattle.scheduler_service.specs.Connection.{Around, Routing, Asks, Does, IsReplied}
-use Rattle.scheduler_service.specs.OneAnswer.{found_by, made_by, AnswersOnce, MeetAlike, EndAlike}
+use Rattle.scheduler_service.specs.OneAnswer.{found_by, made_by, SaysOne, BecomesOne, MeetAlike, DoAlike}
+use Rattle.scheduler_service.specs.OneAnswer.{EndAlike}
 use Rattle.scheduler_service.specs.Replied.{Means, requests_over, job_token}
 use Rattle.scheduler_service.specs.Requested.{IsAskedFor}
 
@@ -61,6 +63,23 @@ drop_all (x ∷ xs) = drop_all xs
 
 second_same : {X : Type 0} (w x y z : X) (xs ys : List X) → w ∷ x ∷ xs ≡ y ∷ z ∷ ys → x ≡ z
 second_same w x y z xs ys is = cc is
+
+none_more : {Row : Type 0} (rows : Option (List Row)) → rows ≡ option_map (λ (l : List Row). l ++ []) rows
+none_more None = refl
+none_more (Some l) = ap (λ x. Some x) (sym (append-nil l))
+
+grow_none : {Row : Type 0} (old new before after : Option (List Row)) → new ≡ old → after ≡ before
+    → GrowAlike old new before after
+grow_none old new before after a b = ([], a ∙ none_more old, b ∙ none_more before)
+
+grow_some : {Row : Type 0} (old new before after : Option (List Row)) (first other more : List Row)
+    → old ≡ Some first → new ≡ Some (first ++ more) → before ≡ Some other → after ≡ Some (other ++ more)
+    → GrowAlike old new before after
+grow_some {Row} old new before after first other more old_is new_is before_is after_is = (
+  more,
+  new_is ∙ sym (ap (option_map (λ (l : List Row). l ++ more)) old_is),
+  after_is ∙ sym (ap (option_map (λ (l : List Row). l ++ more)) before_is),
+)
 
 -- ---- moments
 
@@ -106,46 +125,49 @@ left_told old new coming told left = left ∙ ap one_less told
 
 -- ---- what is asked
 
+same_shown : (f g : TokenError → List ℕ) (v : Result ⊤ TokenError) → ((e : TokenError) → f e ≡ g e)
+    → admission_by f v ≡ admission_by g v
+same_shown f g v same = λ i. admission_by (λ (e : TokenError). same e i) v
+
 same_admits : {K : Type 0} (may_answer : K → ℕ → List ℕ → Result ⊤ TokenError → K → Type 0)
     (shown : K → TokenError → List ℕ) (token : Option (List ℕ)) (now : ℕ) (old before new after : K)
-    (said told : Option Admission) → before ≡ old → AnswersOnce may_answer old
+    (said told : Option Admission) → before ≡ old → SaysOne may_answer shown old new after
     → Admits may_answer shown token now old said new → Admits may_answer shown token now before told after
-    → (said ≡ told) × (new ≡ after)
-same_admits may_answer shown None now old before new after said told is once a b =
-    (a.0 ∙ sym b.0, a.1 ∙ (sym is ∙ sym b.1))
-same_admits may_answer shown (Some token) now old before new after said told is once (x, x_is, a) (
+    → (said ≡ told) × (BecomesOne may_answer old new after → new ≡ after)
+same_admits may_answer shown None now old before new after said told is says a b =
+    (a.0 ∙ sym b.0, λ one. a.1 ∙ (sym is ∙ sym b.1))
+same_admits may_answer shown (Some token) now old before new after said told is says (x, x_is, a) (
   y,
   y_is,
   b,
 ) =
-    let both = once now token a.answer b.answer new after a.answers
-    (subst (λ k. may_answer k now token b.answer after) is b.answers) in
-    let says : x ≡ y = a.told
-    ∙ (ap (λ k. admission_by (shown k) a.answer) both.1 ∙ (ap (λ v. admission_by (shown after) v) both.0 ∙
-    sym b.told)) in
-    (x_is ∙ (ap (λ (v : Admission). Some v) says ∙ sym y_is), both.1)
+    let answers = subst (λ k. may_answer k now token b.answer after) is b.answers in
+    let both = says now token a.answer b.answer a.answers answers a.known b.known in
+    let same : x ≡ y = a.told ∙ (ap (λ v. admission_by (shown new) v) both.0
+    ∙ (same_shown (shown new) (shown after) b.answer both.1 ∙ sym b.told)) in
+    (x_is ∙ (ap (λ (v : Admission). Some v) same ∙ sym y_is), λ one. one now token a.answer b.answer a.answers answers)
 
 same_routing : {K : Type 0} (rules : Rules) (may_answer : K → ℕ → List ℕ → Result ⊤ TokenError → K → Type 0)
     (shown : K → TokenError → List ℕ) (serves : List ℕ → Option Addr) (peer : Addr) (request : Option Request)
-    (now : ℕ) (old before new after : K) (routed other : SchedRouted) → before ≡ old → AnswersOnce
-    may_answer old
+    (now : ℕ) (old before new after : K) (routed other : SchedRouted) → before ≡ old
+    → SaysOne may_answer shown old new after
     → Asks rules may_answer shown serves peer request now old (Ok routed) new
     → Asks rules may_answer shown serves peer request now before (Ok other) after
-    → (routed ≡ other) × (new ≡ after)
-same_routing rules may_answer shown serves peer None now old before new after routed other is once a b =
-    (a.0 ∙ sym b.0, a.1 ∙ (sym is ∙ sym b.1))
-same_routing rules may_answer shown serves peer (Some request) now old before new after routed other is once a b =
+    → (routed ≡ other) × (BecomesOne may_answer old new after → new ≡ after)
+same_routing rules may_answer shown serves peer None now old before new after routed other is says a b =
+    (a.0 ∙ sym b.0, λ one. a.1 ∙ (sym is ∙ sym b.1))
+same_routing rules may_answer shown serves peer (Some request) now old before new after routed other is says a b =
     let both = same_admits may_answer shown (client_token request) now old before new after a.said b.said is
-    once
-    a.admits b.admits in
+    says a.admits b.admits in
     (a.routes ∙ (ap (λ s. answered (asked_of rules serves request peer s)) both.0 ∙ sym b.routes), both.1)
 
 -- ---- what is done
 
--- what is replied, what is left of the clock, and which entries were made
+-- what is replied, what is left of the clock, which entries were made, and what was asked
 abbrev SameEnd : Means → Means → Means → Means → Response → Response → Type 0
 SameEnd old new before after r s = (r ≡ s) × (new.clock ≡ after.clock)
     × (made_by old.pass new.pass ≡ made_by before.pass after.pass)
+    × GrowAlike old.asked new.asked before.asked after.asked
 
 new_places : (old new : Told) (places : List ℕ) → Adds places old new → drop (length old.own) new.own ≡ places
 new_places old new places added = ap (drop (length old.own)) added.own ∙ drop_front old.own places
@@ -202,6 +224,7 @@ same_answer json what old new before after r s coming told clock found a b =
       at.1,
       ap (map (λ place. slice_get new.pass.front place)) mine
           ∙ (both.1 ∙ ap (map (λ place. slice_get after.pass.front place)) (sym theirs)),
+      grow_none old.asked new.asked before.asked after.asked a.unasked.asked b.unasked.asked,
     )
 
 same_ticket : (log : List CoreEntry) (job : JobId) (reg : ℕ) (r q : Ticket)
@@ -234,29 +257,49 @@ pub one_row : (name : ℕ) (r : Ticket) (tc : List ℕ) (heard : Result AssignJo
     (first last : List Asked)
     → IsCalled IsAskedFor r tc heard (requests_over name old) (requests_over name new) → heard ≢ Err Memory
     → old.asked ≡ Some first → new.asked ≡ Some last
-    → (x : Asked) × (drop (length first) last ≡ x ∷ []) × Hears assign_at x.answer heard
+    → (x : Asked) × (drop (length first) last ≡ x ∷ []) × IsAskedFor (row_for r tc heard) x
+    × (last ≡ first ++ x ∷ [])
 one_row name r tc heard old new first last called whole is new_is =
     let sent = called.lent.sent whole in
     let one = subst (λ o. IfSome o (λ rows. (a : Asked) × (new.asked ≡ Some (rows ++ a ∷ []))
-    × IsAskedFor (row_for r tc heard) a)) is sent.one in (
+    × IsAskedFor (row_for r tc heard) a)) is sent.one in
+    let grown : last ≡ first ++ one.0 ∷ [] = some_same last (first ++ one.0 ∷ []) (sym new_is ∙ one.1) in (
       one.0,
-      ap (drop (length first)) (some_same last (first ++ one.0 ∷ []) (sym new_is ∙ one.1))
-          ∙ drop_front first (one.0 ∷ []),
-      one.2.answer,
+      ap (drop (length first)) grown ∙ drop_front first (one.0 ∷ []),
+      one.2,
+      grown,
     )
 
+same_row : (row : Assigned) (a b : Asked) → IsAskedFor row a → IsAskedFor row b → a.answer ≡ b.answer → a ≡ b
+same_row row a b p q is =
+    let host : a.host ≡ b.host = p.host ∙ sym q.host in
+    let port : a.port ≡ b.port = p.port ∙ sym q.port in
+    let request : a.request ≡ b.request = p.request ∙ sym q.request in
+    λ i. record { host = host i; port = port i; request = request i; answer = is i }
+
 same_heard : (name other : ℕ) (r q : Ticket) (tc : List ℕ) (h k : Result AssignJobResult CallFault)
-    (old new before after : Means)
+    (old new before after : Means) → r ≡ q
     → IsCalled IsAskedFor r tc h (requests_over name old) (requests_over name new)
     → IsCalled IsAskedFor q tc k (requests_over other before) (requests_over other after)
-    → h ≢ Err Memory → k ≢ Err Memory → HearAlike old.asked new.asked before.asked after.asked → h ≡ k
-same_heard name other r q tc h k old new before after a b some too alike =
+    → h ≢ Err Memory → k ≢ Err Memory → HearAlike old.asked new.asked before.asked after.asked
+    → (h ≡ k) × GrowAlike old.asked new.asked before.asked after.asked
+same_heard name other r q tc h k old new before after ticket a b some too alike =
     let x = one_row name r tc h old new alike.first alike.last a some alike.old_is alike.new_is in
     let y = one_row other q tc k before after alike.other alike.since b too alike.before_is alike.after_is in
     let answers = ap (map (λ (z : Asked). z.answer)) (sym x.1)
     ∙ (alike.heard ∙ ap (map (λ (z : Asked). z.answer)) y.1) in
     let same : x.0.answer ≡ y.0.answer = head_same x.0.answer y.0.answer [] [] answers in
-    hears_once assign_at x.0.answer h k some too x.2 (subst (λ v. Hears assign_at v k) (sym same) y.2)
+    let heard : h ≡ k = hears_once assign_at x.0.answer h k some too x.2.answer
+    (subst (λ v. Hears assign_at v k) (sym same) y.2.answer) in
+    let rows : row_for r tc h ≡ row_for q tc k = λ i. row_for (ticket i) tc (heard i) in
+    let row : x.0 ≡ y.0 = same_row (row_for r tc h) x.0 y.0 x.2
+    (subst (λ w. IsAskedFor w y.0) (sym rows) y.2) same in (
+      heard,
+      grow_some old.asked new.asked before.asked after.asked alike.first alike.other (x.0 ∷ []) alike.old_is
+          (alike.new_is ∙ ap (λ (l : List Asked). Some l) x.3) alike.before_is
+          (alike.after_is ∙ (ap (λ (l : List Asked). Some l) y.3
+          ∙ ap (λ (z : Asked). Some (alike.other ++ z ∷ [])) (sym row))),
+    )
 
 same_asked : (json : Bool) (tc : List ℕ) (old new before after : Means) (r s : Response) (coming : List ℕ)
     → old.clock.coming ≡ Some coming → before.clock ≡ old.clock
@@ -288,8 +331,9 @@ same_asked json tc old new before after r s coming told clock found alike a b =
     (sym first)
     (subst (λ (e : CoreEntry). IsPicked (λ (key : List ℕ). key) job_token (core_before after.pass b.place).log
     e.kind (Reserved b.r)) (sym reserving) b.reserved.gives.1)) in
-    let heard : a.heard ≡ b.heard = same_heard a.name b.name a.r b.r tc a.heard b.heard old new before after
+    let told_too = same_heard a.name b.name a.r b.r tc a.heard b.heard old new before after ticket
     a.called b.called (λ is. a.replies.0 (ap judged is)) (λ is. b.replies.0 (ap judged is)) alike in
+    let heard : a.heard ≡ b.heard = told_too.0 in
     let spends : rule (core_before new.pass a.spent) (spend_call a.now a.r (judged a.heard))
     ≡ rule (core_before after.pass b.spent) (spend_call b.now b.r (judged b.heard)) =
     λ i. rule (second i) (spend_call (two.0 i) (ticket i) (judged (heard i))) in
@@ -308,6 +352,7 @@ same_asked json tc old new before after r s coming told clock found alike a b =
       two.1,
       ap (map (λ place. slice_get new.pass.front place)) mine
           ∙ (both ∙ ap (map (λ place. slice_get after.pass.front place)) (sym theirs)),
+      told_too.1,
     )
 
 -- one call makes fewer entries than two
@@ -359,6 +404,8 @@ same_done json (asked.Done response) old new before after r s coming told clock 
   ap (λ (m : Means). made_by old.pass m.pass) a.1
       ∙ (none_made old.pass
       ∙ (sym (none_made before.pass) ∙ sym (ap (λ (m : Means). made_by before.pass m.pass) b.1))),
+  grow_none old.asked new.asked before.asked after.asked (ap (λ (m : Means). m.asked) a.1)
+      (ap (λ (m : Means). m.asked) b.1),
 )
 
 -- ---- a whole connection
@@ -373,8 +420,9 @@ same_replied : {K : Type 0} (may_answer : K → ℕ → List ℕ → Result ⊤ 
     after.client
     → Does (form_of request) routing (record old.means { clock = between }) new.means (Ok r)
     → Does (form_of request) asked_too (record before.means { clock = other }) after.means (Ok s)
-    → MeetAlike may_answer old new before after
-    → SameEnd old.means new.means before.means after.means r s × (new.client ≡ after.client)
+    → MeetAlike may_answer shown old new before after
+    → SameEnd old.means new.means before.means after.means r s
+    × (BecomesOne may_answer old.client new.client after.client → new.client ≡ after.client)
 unfolding one_less
 same_replied may_answer shown serves peer request old new before after r s between other (Err e) asked_too
     read
@@ -390,7 +438,7 @@ same_replied may_answer shown serves peer request old new before after r s betwe
     read_too in
     let routes = same_routing old.means.pass.start.rules may_answer shown serves peer request between.last
     old.client before.client new.client
-    after.client routed what meet.client meet.once asks
+    after.client routed what meet.client meet.says asks
     (subst (λ v. Asks v may_answer shown serves peer request between.last before.client (Ok what) after.client)
     meet.rules
     (subst (λ (m : Moments). Asks before.means.pass.start.rules may_answer shown serves peer request m.last
@@ -401,7 +449,19 @@ same_replied may_answer shown serves peer request old new before after r s betwe
     (left_told old.means.clock between meet.coming meet.told read.left) (sym same) meet.found meet.heard done
     (subst (λ w. IsDoneAt (form_of request) w (record before.means { clock = other }) after.means (Ok s))
     (sym routes.0) done_too) in
-    ((end.0, end.1, end.2), routes.1)
+    ((end.0, end.1, end.2, end.3), routes.1)
+
+pub one_reply : {K : Type 0} (may_answer : K → ℕ → List ℕ → Result ⊤ TokenError → K → Type 0)
+    (shown : K → TokenError → List ℕ) (serves : List ℕ → Option Addr) (peer : Addr) (request : Option Request)
+    (r s : Response) (old new before after : Around K)
+    → IsReplied may_answer shown serves peer request old new (Ok r)
+    → IsReplied may_answer shown serves peer request before after (Ok s)
+    → MeetAlike may_answer shown old new before after
+    → (r ≡ s) × DoAlike may_answer old new before after
+one_reply may_answer shown serves peer request r s old new before after a b meet =
+    let same = same_replied may_answer shown serves peer request old new before after r s a.between b.between
+    a.routing b.routing a.read b.read a.asks b.asks a.done b.done meet in
+    (same.0.0, record { entries = same.0.2; clock = same.0.1; asked = same.0.3; client = same.1 })
 
 pub one_answer : {K : Type 0} (may_answer : K → ℕ → List ℕ → Result ⊤ TokenError → K → Type 0)
     (shown : K → TokenError → List ℕ) (serves : List ℕ → Option Addr) (peer : Addr) (bytes : List ℕ)
@@ -409,8 +469,8 @@ pub one_answer : {K : Type 0} (may_answer : K → ℕ → List ℕ → Result �
     → begun.left ≡ Some bytes → begun_too.left ≡ Some bytes
     → IsServedBy (IsReplied may_answer shown serves peer) begun done old new Answered
     → IsServedBy (IsReplied may_answer shown serves peer) begun_too done_too before after Answered
-    → MeetAlike may_answer old new before after
-    → EndAlike begun done begun_too done_too old new before after
+    → MeetAlike may_answer shown old new before after
+    → EndAlike may_answer shown serves peer begun done begun_too done_too old new before after
 one_answer {K} may_answer shown serves peer bytes begun done begun_too done_too old new before after is
     is_too a b
     meet =
@@ -420,16 +480,16 @@ one_answer {K} may_answer shown serves peer bytes begun done begun_too done_too 
     let cut_too = subst (λ o. IfSome o (λ l. TakesCut l done_too.left y.0)) is_too y.2 in
     let taken = same_taken bytes done.left done_too.left x.0 y.0 cut cut_too in
     let z = subst (λ r. IsReplied may_answer shown serves peer r before after (Ok y.1)) (sym taken.0) y.3 in
-    let same = same_replied may_answer shown serves peer x.0 old new before after x.1 y.1 x.3.between
-    z.between
-    x.3.routing z.routing x.3.read z.read x.3.asks z.asks x.3.done z.done meet in
+    let same = one_reply may_answer shown serves peer x.0 x.1 y.1 old new before after x.3 z meet in
     record {
       left = taken.1;
+      request = x.0;
       reply = x.1;
+      took = x.2;
+      took_too = subst (λ q. Took begun_too done_too q) (sym taken.0) y.2;
+      replied = x.3;
+      replied_too = subst (λ w. IsReplied may_answer shown serves peer x.0 before after (Ok w)) (sym same.0) z;
       written = x.4;
-      written_too = subst (λ (r : Response). Added (reply_text r) begun_too.held done_too.held) (sym
-          same.0.0) y.4;
-      entries = same.0.2;
-      client = same.1;
-      clock = same.0.1;
+      written_too = subst (λ (w : Response). Added (reply_text w) begun_too.held done_too.held) (sym same.0) y.4;
+      did = same.1;
     }

@@ -17,7 +17,7 @@ use dist_types::tcp::TcpDialer;
 use http_connections::accepting::{Accepting, Sharing, WORKERS, socket_addr};
 use http_connections::asking::{LimitedNet, SHORT_LIMITS};
 use http_connections::reception::Reception;
-use http_connections::start::{Start, StartFault, has_thread};
+use http_connections::start::{Start, StartFault};
 use http_routes::kind::Role;
 use sched::scheduler::Scheduler;
 use std::alloc::Global;
@@ -131,8 +131,8 @@ fn scheduler_kits<'a, R: Net + Clock + Wait + Copy>(
 }
 
 /// Serves as a scheduler until the listener ends. Refused where the address is taken, a check cannot be made
-/// as the configuration says, no thread can be started, the system does not watch the links, or memory ran
-/// out.
+/// as the configuration says, the system does not watch the links, or memory ran out. Where no thread can be
+/// started it serves alone.
 pub fn serve_scheduler<
     R: Threads
         + Wait
@@ -149,7 +149,6 @@ pub fn serve_scheduler<
         config.rules,
     )?;
     let server = server_check(alloc, &config.server_auth)?;
-    has_thread(rt)?;
     let reception = Reception::new(rt, alloc, Role::Scheduler, listener, start)?;
     let sharing = Sharing {
         rt,

@@ -36,12 +36,12 @@ use Rattle.http_connections.specs.Served.{Shown, IsServedBy}
 use Rattle.http_connections.specs.declared.served.Served.{Served}
 use Rattle.http_connections.specs.declared.served.Served.TheVariants.{Answered, ReadFault, WriteFault, Memory}
 use Rattle.http_connections.proofs.AlikeLemmas.{some_same, drop_front}
-use Rattle.server_service.specs.OneAnswer.{MeetAlike, EndAlike, IsGivenUp}
+use Rattle.server_service.specs.OneAnswer.{MeetAlike, EndAlike, IsGivenUp, HasOneAnswer}
 use Rattle.server_service.specs.Replied.{Means, Dialing, IsDone, IsReplied, IsRun, IsSubmitted, Does, Routing}
 use Rattle.server_service.specs.Replied.{order_of, telling}
 use Rattle.server_service.specs.Routed.{body_of}
 use Rattle.server_service.specs.Told.{IsToldOf}
-use Rattle.server_service.proofs.OneAnswerLemmas.{one_answer, told_some, ready_some}
+use Rattle.server_service.proofs.OneAnswerLemmas.{one_answer, one_route, told_some, ready_some}
 use Rattle.server_service.proofs.OneRunLemmas.{told_row}
 
 -- ---- links
@@ -76,6 +76,21 @@ limited verdict peer bytes begun done begun_too done_too old new before after Wr
 limited verdict peer bytes begun done begun_too done_too old new before after Memory served_too is is_too a b
     room room_too meet =
     absurd (room refl)
+
+pub has_one : (verdict : ℕ → List ℕ → Result ⊤ TokenError) (peer : Peer) (begun done : Shown) (old new : Means)
+    (served : Served) → IsServedBy (IsReplied verdict peer) begun done old new served
+    → HasOneAnswer verdict peer begun done old new served
+has_one verdict peer begun done old new served a = record {
+  routed = λ bytes begun_too done_too before after is left left_too b.
+      one_route verdict peer bytes begun done begun_too done_too old new before after left left_too
+      (subst (λ v. IsServedBy (IsReplied verdict peer) begun done old new v) is a) b;
+  alike = λ bytes begun_too done_too before after is left left_too b meet.
+      one_answer verdict peer bytes begun done begun_too done_too old new before after left left_too
+      (subst (λ v. IsServedBy (IsReplied verdict peer) begun done old new v) is a) b meet;
+  limits = λ bytes begun_too done_too before after served_too left left_too b room room_too meet.
+      limited verdict peer bytes begun done begun_too done_too old new before after served served_too left left_too a b
+      room room_too meet;
+}
 
 -- ---- the new rows of a dialer
 

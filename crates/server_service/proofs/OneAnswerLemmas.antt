@@ -41,7 +41,7 @@ use Rattle.http_connections.specs.Served.{Shown, Took, IsServedBy}
 use Rattle.http_connections.specs.Taking.{TakesCut}
 use Rattle.http_connections.specs.declared.served.Served.TheVariants.{Answered}
 use Rattle.http_connections.proofs.AlikeLemmas.{some_same, head_same, same_taken}
-use Rattle.server_service.specs.OneAnswer.{KeptAlike, KeepAlike, MeetAlike, DoAlike, EndAlike}
+use Rattle.server_service.specs.OneAnswer.{KeptAlike, KeepAlike, MeetAlike, DoAlike, EndAlike, RouteAlike}
 use Rattle.server_service.specs.Replied.{fault_of, IsTold, Replies, Means, telling, IsAssignedAndTold, IsSubmitted}
 use Rattle.server_service.specs.Replied.{order_of, IsRun, IsDone, Routing, Does}
 use Rattle.server_service.specs.Replied.{IsReplied}
@@ -393,4 +393,49 @@ one_answer verdict peer bytes begun done begun_too done_too old new before after
       written = x.4;
       written_too = subst (λ w. Added (reply_text w) begun_too.held done_too.held) (sym same.0) y.4;
       did = same.1;
+    }
+
+-- what a route answers is the reply, and changes nothing
+settled_does : (verdict : ℕ → List ℕ → Result ⊤ TokenError) (peer : Peer) (request : Option Request)
+    (reply r : Response) (old new : Means) (routing : Routing) → routed_of verdict request ≡ asked.Done reply
+    → IfOk routing (λ routed. routed ≡ routed_of verdict request)
+    → Does peer (form_of request) (body_of request) routing old new (Ok r) → (r ≡ reply) × (new ≡ old)
+settled_does verdict peer request reply r old new (Err e) is routes did = absurd (cc did.0)
+settled_does verdict peer request reply r old new (Ok what) is routes did =
+    let x = subst (λ w. IsDone peer (form_of request) (body_of request) w old new (Ok r)) (routes ∙ is) did in
+    (ok_same r reply x.0, x.1)
+
+pub settled : (verdict : ℕ → List ℕ → Result ⊤ TokenError) (peer : Peer) (request : Option Request)
+    (reply r : Response) (old new : Means) → routed_of verdict request ≡ asked.Done reply
+    → IsReplied verdict peer request old new (Ok r) → (r ≡ reply) × (new ≡ old)
+settled verdict peer request reply r old new is a =
+    settled_does verdict peer request reply r old new a.routing is a.routes a.done
+
+pub one_route : (verdict : ℕ → List ℕ → Result ⊤ TokenError) (peer : Peer) (bytes : List ℕ)
+    (begun done begun_too done_too : Shown) (old new before after : Means)
+    → begun.left ≡ Some bytes → begun_too.left ≡ Some bytes
+    → IsServedBy (IsReplied verdict peer) begun done old new Answered
+    → IsServedBy (IsReplied verdict peer) begun_too done_too before after Answered
+    → RouteAlike verdict begun done begun_too done_too old new before after
+one_route verdict peer bytes begun done begun_too done_too old new before after is is_too a b =
+    let x = a.serves in
+    let y = b.serves in
+    let cut = subst (λ o. IfSome o (λ l. TakesCut l done.left x.0)) is x.2 in
+    let cut_too = subst (λ o. IfSome o (λ l. TakesCut l done_too.left y.0)) is_too y.2 in
+    let taken = same_taken bytes done.left done_too.left x.0 y.0 cut cut_too in
+    let z = subst (λ q. IsReplied verdict peer q before after (Ok y.1)) (sym taken.0) y.3 in
+    record {
+      left = taken.1;
+      request = x.0;
+      took = x.2;
+      took_too = subst (λ q. Took begun_too done_too q) (sym taken.0) y.2;
+      settled = λ reply route.
+          let mine = settled verdict peer x.0 reply x.1 old new route x.3 in
+          let theirs = settled verdict peer x.0 reply y.1 before after route z in
+          record {
+            written = subst (λ w. Added (reply_text w) begun.held done.held) mine.0 x.4;
+            written_too = subst (λ w. Added (reply_text w) begun_too.held done_too.held) theirs.0 y.4;
+            stays = mine.1;
+            stays_too = theirs.1;
+          };
     }

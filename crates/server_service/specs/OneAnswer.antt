@@ -1,16 +1,22 @@
 -- Two connections of build servers that meet the same, and what becomes of both.
-use Rattle.std.specs.Prelude.{◌≡◌, ◌⊎◌, ◌<◌, Option, Some, Ok}
+use Rattle.std.specs.Prelude.{◌≡◌, ◌≢◌, ◌⊎◌, ◌<◌, ℕ, List, Option, Some, Result, Ok, ⊤}
 use Rattle.dist_types.specs.Builder.{Built}
 use Rattle.dist_types.specs.Cause.{Rose}
 use Rattle.dist_types.specs.Content.{Added}
+use Rattle.dist_types.specs.Outgoing.{Peer}
+use Rattle.dist_types.specs.declared.token_error.TokenError.{TokenError}
 use Rattle.folders.specs.Files.{Files}
 use Rattle.build_server.specs.Books.{Books}
 use Rattle.http_head.specs.declared.request.Request.{Request}
 use Rattle.http_routes.specs.Reply.{reply_text}
 use Rattle.http_routes.specs.declared.reply.Response.{Response}
 use Rattle.http_connections.specs.Alike.{AnsweredAlike, HearAlike, GrowAlike}
-use Rattle.http_connections.specs.Served.{Shown, Took, MadeReply}
-use Rattle.server_service.specs.Replied.{Means}
+use Rattle.http_routes.specs.declared.server_route.ServerRouted.TheVariants.{Done}
+use Rattle.http_connections.specs.Served.{Shown, Took, MadeReply, IsServedBy}
+use Rattle.http_connections.specs.declared.served.Served.{Served}
+use Rattle.http_connections.specs.declared.served.Served.TheVariants.{Answered, Memory}
+use Rattle.server_service.specs.Replied.{Means, IsReplied}
+use Rattle.server_service.specs.Routed.{routed_of}
 
 -- Both keepers tell their books, which were the same before; their folder tells its files, its count of faults
 -- is not at its end, and it failed as often in both.
@@ -72,3 +78,43 @@ pub record EndAlike (replies : Option Request → Means → Means → MadeReply 
 -- the link was given up: one of its counts rose
 abbrev pub IsGivenUp : Shown → Shown → Type 0
 IsGivenUp begun done = Rose begun.reads done.reads ⊎ Rose begun.writes done.writes
+
+-- Both wrote that reply, and nothing changed in either.
+pub record AreDone (reply : Response) (begun done begun_too done_too : Shown) (old new before after : Means)
+    : Type 0 where
+  pub written : Added (reply_text reply) begun.held done.held
+  pub written_too : Added (reply_text reply) begun_too.held done_too.held
+  pub stays : new ≡ old
+  pub stays_too : after ≡ before
+
+-- The same is left of both, and one request was taken. Where its route answers it, as it does what is refused,
+-- that is the reply of both, and nothing changes, whatever is kept and told.
+pub record RouteAlike (verdict : ℕ → List ℕ → Result ⊤ TokenError) (begun done begun_too done_too : Shown)
+    (old new before after : Means) : Type 0 where
+  pub left : done.left ≡ done_too.left
+  pub request : Option Request
+  pub took : Took begun done request
+  pub took_too : Took begun_too done_too request
+  pub settled : (reply : Response) → routed_of verdict request ≡ Done reply
+      → AreDone reply begun done begun_too done_too old new before after
+
+-- A connection that was served so has one answer. Whichever other is served over a link of the same bytes, however
+-- these come: where both are answered, one request was taken, and what its route answers is replied; where they meet
+-- the same, the same becomes of both; and where one is not answered, memory ran out, or one link was given up.
+pub record HasOneAnswer (verdict : ℕ → List ℕ → Result ⊤ TokenError) (peer : Peer) (begun done : Shown)
+    (old new : Means) (served : Served) : Type 0 where
+  pub routed : (bytes : List ℕ) (begun_too done_too : Shown) (before after : Means) → served ≡ Answered
+      → begun.left ≡ Some bytes → begun_too.left ≡ Some bytes
+      → IsServedBy (IsReplied verdict peer) begun_too done_too before after Answered
+      → RouteAlike verdict begun done begun_too done_too old new before after
+  pub alike : (bytes : List ℕ) (begun_too done_too : Shown) (before after : Means) → served ≡ Answered
+      → begun.left ≡ Some bytes → begun_too.left ≡ Some bytes
+      → IsServedBy (IsReplied verdict peer) begun_too done_too before after Answered
+      → MeetAlike old new before after
+      → EndAlike (IsReplied verdict peer) begun done begun_too done_too old new before after
+  pub limits : (bytes : List ℕ) (begun_too done_too : Shown) (before after : Means) (served_too : Served)
+      → begun.left ≡ Some bytes → begun_too.left ≡ Some bytes
+      → IsServedBy (IsReplied verdict peer) begun_too done_too before after served_too
+      → served ≢ Memory → served_too ≢ Memory → MeetAlike old new before after
+      → IsGivenUp begun done ⊎ (IsGivenUp begun_too done_too
+      ⊎ EndAlike (IsReplied verdict peer) begun done begun_too done_too old new before after)

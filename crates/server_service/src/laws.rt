@@ -7,11 +7,13 @@ ghost use Rattle.dist_types.specs.declared.dialer.AskFault.TheVariants.{Failed};
 ghost use Rattle.dist_token.specs.Verdict.{job_verdict};
 ghost use Rattle.http_connections.specs.Served.{Shown, IsServedBy};
 ghost use Rattle.http_connections.specs.declared.served.Served.{Served};
-ghost use Rattle.http_connections.specs.declared.served.Served.TheVariants.{Answered, Memory};
+ghost use Rattle.http_connections.specs.declared.served.Served.TheVariants.{Memory};
 ghost use Rattle.http_head.specs.declared.request.Request.{Request as Taken};
 ghost use Rattle.http_routes.specs.declared.reply.Response.{Response as Reply};
-ghost use Rattle.server_service.specs.OneAnswer.{MeetAlike, DoAlike, EndAlike, IsGivenUp};
+ghost use Rattle.http_routes.specs.declared.server_route.ServerRouted.TheVariants.{Done};
+ghost use Rattle.server_service.specs.OneAnswer.{MeetAlike, DoAlike, EndAlike, IsGivenUp, HasOneAnswer};
 ghost use Rattle.server_service.specs.Replied.{Means, IsReplied};
+ghost use Rattle.server_service.specs.Routed.{routed_of};
 ghost use Rattle.server_service.specs.Told.{peer_of};
 
 /// One request that is replied to twice, under one key and for one scheduler, where both meet the same, has
@@ -26,19 +28,25 @@ pub fn one_reply()
         → (r ≡ s) × DoAlike old new before after }
 {}
 
-/// Two connections that are answered, over links that hold the same bytes, however these come, under one key
-/// and for one scheduler, and that meet the same: they have one request and one reply, ask the same of the
-/// dialer and of the builder, and keep the same, but for the archives where the folder failed.
+/// A request that its route answers, as it does what is refused, is replied to so, and nothing changes, whatever is
+/// kept.
+pub fn routes_settle()
+    ensures { (key : List ℕ) (scheduler : Parts) (auth : List ℕ) (request : Option Taken) (reply r : Reply)
+        (old new : Means)
+        → routed_of (job_verdict key) request ≡ Done reply
+        → IsReplied (job_verdict key) (peer_of scheduler auth) request old new (Ok r)
+        → (r ≡ reply) × (new ≡ old) }
+{}
+
+/// A connection that was served has one answer. Two that are answered, over links that hold the same bytes,
+/// however these come, under one key and for one scheduler, have one request, and what its route answers is the
+/// reply of both; where they meet the same, they have one reply, ask the same of the dialer and of the builder, and
+/// keep the same, but for the archives where the folder failed.
 pub fn one_answer()
-    ensures { (key : List ℕ) (scheduler : Parts) (auth bytes : List ℕ)
-        (begun done begun_too done_too : Shown) (old new before after : Means)
-        → begun.left ≡ Some bytes → begun_too.left ≡ Some bytes
-        → IsServedBy (IsReplied (job_verdict key) (peer_of scheduler auth)) begun done old new Answered
-        → IsServedBy (IsReplied (job_verdict key) (peer_of scheduler auth)) begun_too done_too before after
-        Answered
-        → MeetAlike old new before after
-        → EndAlike (IsReplied (job_verdict key) (peer_of scheduler auth)) begun done begun_too done_too
-        old new before after }
+    ensures { (key : List ℕ) (scheduler : Parts) (auth : List ℕ) (begun done : Shown) (old new : Means)
+        (served : Served)
+        → IsServedBy (IsReplied (job_verdict key) (peer_of scheduler auth)) begun done old new served
+        → HasOneAnswer (job_verdict key) (peer_of scheduler auth) begun done old new served }
 {}
 
 /// A limit on a link changes no answer. Two connections over links that hold the same bytes, however these come, under

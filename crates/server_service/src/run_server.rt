@@ -1,5 +1,5 @@
 //! A build server on a runtime of the system: its listener, its cache, its workers and its heartbeat.
-ghost use Rattle.std.specs.Prelude.{◌≡◌, OnOk, IfOk};
+ghost use Rattle.std.specs.Prelude.{◌≡◌, OnOk, IfOk, IfErr};
 ghost use Rattle.http_calls.specs.Urls.{IsHttp};
 ghost use Rattle.server_service.specs.Heartbeat.{beat_of};
 
@@ -21,7 +21,7 @@ use http_connections::accepting::{Accepting, QUICK_WORKERS, Sharing, WORKERS, so
 use http_connections::asking::{LimitedNet, REPORT_LIMITS, SHORT_LIMITS};
 use http_connections::queues::Takes;
 use http_connections::reception::Reception;
-use http_connections::start::{Start, StartFault, has_thread};
+use http_connections::start::{Start, StartFault};
 use http_routes::kind::Role;
 use std::alloc::Global;
 use std::fs::File;
@@ -231,7 +231,8 @@ fn serve_until_ended<
     }
 }
 
-/// Serves, and tells heartbeats in a thread of its own, until the listener ended.
+/// Serves, and tells heartbeats in a thread of its own, until the listener ended. Where that thread cannot be
+/// started no connection is taken and no heartbeat told, and the kits come back as they were.
 fn serve_and_beat<
     'a,
     R: Threads
@@ -250,30 +251,42 @@ fn serve_and_beat<
     kits: Vec<ServerKit<'a, R, B>>,
     config: &ServerConfig,
     beat: &HeartbeatServerHttpRequest,
-) -> Result<(), StartFault>
+) -> Result<Result<(), StartFault>, Vec<ServerKit<'a, R, B>>>
     requires http { IsHttp config.now.scheduler_url }
     requires beat { beat.now ≡ beat_of sharing.now.start }
+    ensures refused { IfErr result (λ back. back ≡ kits.entry) }
 {
     let rt = sharing.rt;
     let alloc = sharing.alloc;
     let ending = Ending::new();
-    let (_, served) = thread::join(
+    let ending = &ending;
+    thread::scope(
+        thread::scope_env(),
         rt,
-        || -> ()
+        |scope| -> Result<Result<(), StartFault>, Vec<ServerKit<'_, R, B>>>
             requires { IsHttp config.now.scheduler_url × (beat.now ≡ beat_of sharing.now.start) }
+            ensures { IfErr result (λ back. back ≡ kits.entry) }
         {
-            beat_until_ended(sharing, &ending, config, beat);
+            let beats = scope.spawn(
+                move || -> ()
+                    requires { IsHttp config.now.scheduler_url × (beat.now ≡ beat_of sharing.now.start) }
+                {
+                    beat_until_ended(sharing, ending, config, beat);
+                },
+            );
+            let Ok(beats) = beats else {
+                return Err(kits);
+            };
+            let served = serve_until_ended(rt, alloc, ending, server, key, kits, config);
+            beats.join(rt);
+            Ok(served)
         },
-        || -> Result<(), StartFault>
-            requires { IsHttp config.now.scheduler_url }
-        { serve_until_ended(rt, alloc, &ending, server, key, kits, config) },
-    );
-    served
+    )
 }
 
 /// Serves as a build server until the listener ends, by builders that echo. Refused at once where the
-/// address is taken, the folder cannot be opened, the scheduler's URL is not of
-/// http, no thread can be started, the system does not watch the links, or memory ran out.
+/// address is taken, the folder cannot be opened, the scheduler's URL is not of http, no thread can be
+/// started for the heartbeats, the system does not watch the links, or memory ran out.
 pub fn serve_server<
     R: Threads
         + Wait
@@ -322,7 +335,6 @@ where
     let server = server_of(*rt, alloc, config)?;
     let beat = beat_of(alloc, &start)?;
     let key = JWTJobAuthorizer::new(Vec::from_slice(alloc, &start.key)?);
-    has_thread(rt)?;
     let reception = Reception::new(rt, alloc, Role::Server, listener, start)?;
     let sharing = Sharing {
         rt,
@@ -331,6 +343,9 @@ where
         start,
     };
     let kits = server_kits(&sharing, builders)?;
-    serve_and_beat(&sharing, &server, &key, kits, config, &beat)?;
+    match serve_and_beat(&sharing, &server, &key, kits, config, &beat) {
+        Ok(served) => served?,
+        Err(_kits) => return Err(StartFault),
+    }
     reception.outcome(rt)
 }

@@ -1,6 +1,7 @@
 //! What calls answer, and where two caches differ.
 ghost use Rattle.std.specs.Prelude.{◌≡◌, OnOk};
 
+use dist_types::toolchain_error::ToolchainError;
 use folders::fault::FolderFault;
 use lru_disk_cache::Error;
 use std::alloc::AllocError;
@@ -16,6 +17,10 @@ pub enum Answer {
     Content(Vec<u8>),
     /// It refused.
     Refused(Error),
+    /// A compiler's toolchain is a configured archive, of this SHA-256.
+    Configured(Vec<u8>),
+    /// A client's toolchains refused, by what is configured, what is recorded, or the packager.
+    Denied(ToolchainError),
 }
 
 /// The answer of a call that gives nothing.
@@ -31,6 +36,15 @@ pub fn content(answer: Result<Vec<u8>, Error>) -> Answer {
     match answer {
         Ok(bytes) => Answer::Content(bytes),
         Err(error) => Answer::Refused(error),
+    }
+}
+
+/// The refusal of a client's toolchains.
+pub fn denied(refusal: ToolchainError) -> Answer {
+    match refusal {
+        ToolchainError::Cache(error) => Answer::Refused(error),
+        ToolchainError::Memory => Answer::Refused(Error::Memory),
+        _ => Answer::Denied(refusal),
     }
 }
 

@@ -46,9 +46,9 @@ fn write_to(out: &mut Vec<u8>, bytes: &[u8]) -> Result<(), WriteFault> {
     }
 }
 
-// The cache lies below `c`, so this file lies outside it.
+// The cache lies below `tc`, so this file lies outside it.
 fn insert_file<F: Folder + Drop>(cache: &mut LruDiskCache<F>, key: &str) -> Answer {
-    if cache.path() != "c" {
+    if cache.path() != "tc" {
         return Answer::Absent;
     }
     done(cache.insert_file(key, "small"))
@@ -65,8 +65,8 @@ fn get<F: Folder + Drop>(alloc: Global, cache: &mut LruDiskCache<F>, key: &str) 
     }
 }
 
-// What is read, a few bytes at a time.
-fn read_all<R: ReadSeek>(alloc: Global, opened: &mut R) -> Result<Vec<u8>, AllocError> {
+/// What is read, a few bytes at a time.
+pub fn read_all<R: ReadSeek>(alloc: Global, opened: &mut R) -> Result<Vec<u8>, AllocError> {
     let mut whole = Vec::new(alloc);
     for _ in 0..PIECES {
         read_piece(opened, &mut whole)?;

@@ -21,13 +21,14 @@ struct Reserved {
     size: u64,
 }
 
-/// The folder, the list, and the open reservations.
+/// The folder, the list, the open reservations, and how many inserts failed.
 #[derive(Drop)]
 pub struct PlainCache {
     alloc: Global,
     pub folder: PlainFolder,
     pub list: Vec<Entry>,
     open: Vec<Reserved>,
+    spoiled: u64,
 }
 
 // ---- the rules
@@ -39,6 +40,7 @@ impl PlainCache {
             folder,
             list: Vec::new(alloc),
             open: Vec::new(alloc),
+            spoiled: 0,
         }
     }
 
@@ -47,6 +49,7 @@ impl PlainCache {
     pub fn open(&mut self) -> Result<(), Error> {
         self.list.clear();
         self.open.clear();
+        self.spoiled = 0;
         self.folder.nothing()?;
         let found = self.found()?;
         for (place, size) in found {
@@ -59,21 +62,32 @@ impl PlainCache {
     fn sort_in(&mut self, place: Place, size: u64) -> Result<(), FolderFault> {
         match place {
             Place::Of(key) => self.list_last(key, size),
-            Place::Outside => Ok(()),
+            Place::Outside | Place::Configured => Ok(()),
+            Place::Weak | Place::Written | Place::Leftover => Ok(()),
             _ => self.folder.remove(place),
         }
     }
 
     /// An insert writes a temporary file, counts an old entry of the key out, drops the least recent until
-    /// the new size fits, renames, and lists the key as the most recent.
+    /// the new size fits, renames, and lists the key as the most recent. Where that fails, the next insert
+    /// takes another temporary file.
     pub fn insert(&mut self, key: Key, bytes: &[u8]) -> Result<(), Error> {
         let size = bytes.len() as u64;
         self.admit(key, size)?;
-        let temporary = Place::Temporary(self.least_free());
+        match self.store(Entry { key, size }, bytes) {
+            Ok(()) => Ok(()),
+            Err(fault) => {
+                self.spoiled = self.spoiled.saturating_add(1);
+                Err(Error::from(fault))
+            }
+        }
+    }
+
+    fn store(&mut self, entry: Entry, bytes: &[u8]) -> Result<(), FolderFault> {
+        let temporary = Place::Inserted(self.spoiled);
         self.folder.nothing()?;
         self.folder.write(temporary, bytes)?;
-        self.fill(temporary, Entry { key, size }, self.room_beside(size))?;
-        Ok(())
+        self.fill(temporary, entry, self.room_beside(entry.size))
     }
 
     /// The same of a file outside the cache, which is renamed.
@@ -274,8 +288,8 @@ impl PlainCache {
         self.open.retain(|reserved| reserved.number != number);
     }
 
-    // The places and sizes of the files.
-    fn found(&self) -> Result<Vec<(Place, u64)>, FolderFault> {
+    /// The places and sizes of the files.
+    pub fn found(&self) -> Result<Vec<(Place, u64)>, FolderFault> {
         let mut found = Vec::new(self.alloc);
         for file in &self.folder.files {
             let Ok(()) = found.push((file.place, file.bytes.len() as u64)) else {

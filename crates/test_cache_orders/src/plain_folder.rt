@@ -5,7 +5,8 @@ use crate::names::Place;
 use folders::fault::FolderFault;
 use std::alloc::Global;
 
-/// The call of a folder that fails: none, the one of this number before it does anything, or behind it.
+/// The call of a folder that fails: none, the one of this number before it does anything, behind it, or in the
+/// middle of what it writes.
 #[derive(Clone, Copy, PartialEq, Eq)]
 pub enum Failing {
     /// None.
@@ -14,6 +15,9 @@ pub enum Failing {
     Before(u64),
     /// The call of this number, behind what it does.
     Behind(u64),
+    /// The call of this number, in front of the last byte that it writes; before it does anything, where it
+    /// writes none.
+    Middle(u64),
 }
 
 impl Failing {
@@ -33,6 +37,14 @@ impl Failing {
         }
     }
 
+    /// The number of the call that fails in the middle of what it writes.
+    pub fn middle(self) -> Option<u64> {
+        match self {
+            Failing::Middle(number) => Some(number),
+            _ => None,
+        }
+    }
+
     /// Whether so many calls may have failed: a call that finds no file does not fail behind that.
     pub fn allows(self, faults: u64) -> bool
         ensures few { result ≡ true → faults ≤ 1 }
@@ -41,6 +53,7 @@ impl Failing {
             Failing::Never => faults == 0,
             Failing::Before(_) => faults == 1,
             Failing::Behind(_) => faults <= 1,
+            Failing::Middle(_) => faults == 1,
         }
     }
 }
@@ -84,12 +97,30 @@ impl PlainFolder {
         let number = self.calls;
         self.calls = number.saturating_add(1);
         self.fail_at(Failing::Before(number))?;
+        self.fail_at(Failing::Middle(number))?;
         Ok(number)
+    }
+
+    // One more call, which writes bytes. Gives its number, and those of the bytes that it writes.
+    fn begin_piece<'a>(&mut self, bytes: &'a [u8]) -> Result<(u64, &'a [u8]), FolderFault> {
+        let number = self.calls;
+        if self.failing != Failing::Middle(number) || bytes.is_empty() {
+            self.begin()?;
+            return Ok((number, bytes));
+        }
+        self.calls = number.saturating_add(1);
+        Ok((number, &bytes[..bytes.len() - 1]))
     }
 
     // The end of the call of a number, which did what it does.
     fn end(&mut self, number: u64) -> Result<(), FolderFault> {
         self.fail_at(Failing::Behind(number))
+    }
+
+    // The same of a call that wrote bytes.
+    fn end_piece(&mut self, number: u64) -> Result<(), FolderFault> {
+        self.fail_at(Failing::Middle(number))?;
+        self.end(number)
     }
 
     fn fail_at(&mut self, here: Failing) -> Result<(), FolderFault> {
@@ -146,19 +177,19 @@ impl PlainFolder {
 
     /// A file has this content, in place of that of one which was there.
     pub fn write(&mut self, place: Place, bytes: &[u8]) -> Result<(), FolderFault> {
-        let number = self.begin()?;
-        let bytes = Vec::from_slice(self.alloc, bytes)?;
+        let (number, piece) = self.begin_piece(bytes)?;
+        let bytes = Vec::from_slice(self.alloc, piece)?;
         self.put(place, bytes)?;
-        self.end(number)
+        self.end_piece(number)
     }
 
     /// A file has these bytes more.
     pub fn append(&mut self, place: Place, bytes: &[u8]) -> Result<(), FolderFault> {
-        let number = self.begin()?;
+        let (number, piece) = self.begin_piece(bytes)?;
         let mut whole = self.content(place)?;
-        whole.extend_from_slice(bytes)?;
+        whole.extend_from_slice(piece)?;
         self.put(place, whole)?;
-        self.end(number)
+        self.end_piece(number)
     }
 
     /// A file lies elsewhere, in place of one that lay there.

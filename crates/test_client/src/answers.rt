@@ -7,7 +7,7 @@ use dist_types::results::{
     AllocJobResult, JobAlloc, JobComplete, RunJobResult, SchedulerStatusResult,
     SubmitToolchainResult,
 };
-use http_calls::error::CallError;
+use http_calls::error::HttpError;
 use std::alloc::Global;
 
 fn local_told(alloc: Global, refusal: ToolchainError) -> Result<String, Fault> {
@@ -20,17 +20,12 @@ fn status_told(alloc: Global, code: u16, body: &[u8]) -> Result<String, Fault> {
 }
 
 /// Why a call gave no answer, by name.
-pub(crate) fn refused(alloc: Global, refusal: CallError) -> Result<String, Fault> {
+pub(crate) fn refused(alloc: Global, refusal: HttpError) -> Result<String, Fault> {
     match refusal {
-        CallError::BadBase => said(alloc, "BadBase"),
-        CallError::HeadTooLong => said(alloc, "HeadTooLong"),
-        CallError::LinkFault => said(alloc, "LinkFault"),
-        CallError::ParseError => said(alloc, "ParseError"),
-        CallError::Status(code, body) => status_told(alloc, code, body.get()),
-        CallError::NotLocal => said(alloc, "NotLocal"),
-        CallError::Packager => said(alloc, "Packager"),
-        CallError::Local(refusal) => local_told(alloc, refusal),
-        CallError::Memory => Err(Fault::Memory),
+        HttpError::Status(code, body) => status_told(alloc, code, body.get()),
+        HttpError::Local(refusal) => local_told(alloc, refusal),
+        HttpError::Memory => Err(Fault::Memory),
+        other => Ok(format!(in alloc; "{other:?}")?),
     }
 }
 

@@ -3,7 +3,7 @@ use core_rules::entry::{CoreEntry, CoreKind, Reserved, UpdateAnswer};
 use core_rules::rows::{JobRow, ServerRow};
 use dist_types::results::JobState;
 
-/// What is to come in each test.
+/// What is to come in each test of short histories.
 pub(crate) const ARMS: &[&str] = &[
     "reserved wrapped forgiven full spent pending ready dropped undone unended alone",
     "new old replaced reaped pruned readied started complete unknown wrong transition",

@@ -56,7 +56,7 @@ const SHORT: Shape = Shape {
     reserves: 22,
 };
 
-/// How often each arm comes at least, in the histories of a test.
+/// How often each arm comes at least, in a test of short histories.
 const LEAST: usize = 5;
 
 /// The bytes of the key of each authorizer.

@@ -4,7 +4,7 @@ use crate::ran::Ran;
 use dist_config::serve::MemServe;
 use dist_types::sink::MemSink;
 use dist_types::source::MemSource;
-use farm::command::run_command_line;
+use farm::command::{run_command_line, words_given};
 use farm::files::MemFiles;
 use std::alloc::Global;
 use std::env::Args;
@@ -22,8 +22,9 @@ fn ran(alloc: Global, given: io::Result<Args>) -> Result<(Ran, usize), Fail> {
     let mut files = MemFiles::new(alloc, Vec::new(alloc), Vec::new(alloc));
     let mut zeros = Zeros;
     let mut serve = MemServe::new(alloc, Vec::new(alloc));
+    let words = words_given(alloc, given);
     let status = run_command_line(
-        alloc, given, &mut input, &mut out, &mut errs, &mut files, &mut zeros, &mut serve,
+        alloc, words, &mut input, &mut out, &mut errs, &mut files, &mut zeros, &mut serve,
     );
     let rest = dist_types::source::read_up_to(alloc, &mut input, 1_000_000)?;
     let ran = Ran {

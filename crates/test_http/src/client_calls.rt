@@ -8,7 +8,7 @@ use dist_types::text::{Items, Text};
 use dist_types::toolchain::Toolchain;
 use http_calls::alloc_call::AllocCall;
 use http_calls::builder::{RequestBuilder, ReqwestRequestBuilderExt};
-use http_calls::error::CallError;
+use http_calls::error::HttpError;
 use http_calls::run_call::RunCall;
 use http_calls::status_call::StatusCall;
 use http_calls::submit_call::SubmitCall;
@@ -134,7 +134,7 @@ fn a_run_is_sent_behind_its_length(rt: HostRuntime) {
 }
 
 /// Why the reply to a status call is no answer.
-fn fault(rt: &impl Abort, alloc: Global, reply: Result<&[u8], Failed>) -> CallError {
+fn fault(rt: &impl Abort, alloc: Global, reply: Result<&[u8], Failed>) -> HttpError {
     match status_call(rt, alloc).resume(reply) {
         Ok(_) => panic!(rt; "an answer"),
         Err(fault) => fault,
@@ -144,14 +144,14 @@ fn fault(rt: &impl Abort, alloc: Global, reply: Result<&[u8], Failed>) -> CallEr
 #[test]
 fn each_reply_that_is_no_answer_is_told(rt: HostRuntime) {
     let alloc = rt.alloc();
-    assert!(&rt; matches!(&fault(&rt, alloc, Err(Failed)), CallError::LinkFault));
+    assert!(&rt; matches!(&fault(&rt, alloc, Err(Failed)), HttpError::LinkFault));
     let none = b"HTTP/1.1 200 OK\r\nContent-Length: 1\r\n\r\n\0".as_slice();
-    assert!(&rt; matches!(&fault(&rt, alloc, Ok(none)), CallError::ParseError));
+    assert!(&rt; matches!(&fault(&rt, alloc, Ok(none)), HttpError::ParseError));
     let cut = b"HTTP/1.1 200 OK\r\nContent-Length: 9\r\n\r\n\0".as_slice();
-    assert!(&rt; matches!(&fault(&rt, alloc, Ok(cut)), CallError::ParseError));
+    assert!(&rt; matches!(&fault(&rt, alloc, Ok(cut)), HttpError::ParseError));
     let created =
         b"HTTP/1.1 201 Created\r\n\r\n\x01\0\0\0\0\0\0\0\x08\0\0\0\0\0\0\0\0\0\0\0\0\0\0\0".as_slice();
-    assert!(&rt; matches!(&fault(&rt, alloc, Ok(created)), CallError::Status(201, _)));
+    assert!(&rt; matches!(&fault(&rt, alloc, Ok(created)), HttpError::Status(201, _)));
 }
 
 /// A request for the URL.

@@ -1,7 +1,7 @@
 //! Bases of every form, and what they are joined to.
 use dist_types::addr::Addr;
 use dist_types::ids::{JobId, ServerId};
-use http_calls::error::CallError;
+use http_calls::error::HttpError;
 use http_calls::urls::{
     scheduler_alloc_job, scheduler_drain_server, scheduler_job_state, server_run_job,
 };
@@ -99,7 +99,7 @@ fn is_refused(alloc: Global, base: &str) -> bool {
         return false;
     };
     match scheduler_job_state(alloc, &base, JobId(7)) {
-        Err(CallError::BadBase) => true,
+        Err(HttpError::BadBase) => true,
         Err(_) => false,
         Ok(_) => false,
     }
@@ -117,7 +117,7 @@ fn is_drain_refused(alloc: Global, base: &str) -> bool {
         return false;
     };
     match scheduler_drain_server(&base) {
-        Err(CallError::BadBase) => true,
+        Err(HttpError::BadBase) => true,
         Err(_) => false,
         Ok(_) => false,
     }

@@ -1,4 +1,4 @@
-//! Tests of scripts: lines and setups, good and faulty, each with the cause and the number that is told.
+//! Tests of scripts: lines, setups and lives, good and faulty, each with the cause and the number that is told.
 //! Tests alone; nothing above uses this crate.
 #![tactic(auto)]
 
@@ -8,6 +8,8 @@ mod judged;
 mod limits;
 #[cfg(test)]
 mod lines;
+#[cfg(test)]
+mod lives;
 #[cfg(test)]
 mod values;
 #[cfg(test)]

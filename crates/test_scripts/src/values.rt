@@ -160,6 +160,12 @@ fn prints_faults_of_lines(rt: HostRuntime) -> Result<(), Fail> {
         FarmFault::ScopedAddress(2),
         "scoped address on line 2",
     )?;
+    prints(
+        &rt,
+        alloc,
+        FarmFault::OverlappingIds(4),
+        "overlapping ids on line 4",
+    )?;
     prints(&rt, alloc, FarmFault::Usage, "these words name no command")?;
     prints(&rt, alloc, FarmFault::Memory, "out of memory")
 }

@@ -101,12 +101,12 @@ pub fn dialer(rt: &impl Abort, alloc: Global, reply: &[u8]) -> MemDialer {
     MemDialer::new(alloc, replies, Vec::new(alloc))
 }
 
-/// A heartbeat of 127.0.0.1:10501 with one processor, the key 1, 2, 2 and the nonce 7, and an allocation of
-/// `abc`.
+/// A heartbeat of 127.0.0.1:10501 with one processor, the key 1, 2, 2 and the nonce 7.
 const BEAT: &[u8] =
     b"POST /api/v1/scheduler/heartbeat_server HTTP/1.1\r\nAuthorization: Bearer 127.0.0.1:10501 s1\r\nContent-Type: application/octet-stream\r\nContent-Length: 27\r\n\r\n\x03\0\0\0\0\0\0\0\x01\x02\x02\x01\0\0\0\0\0\0\0\x07\0\0\0\0\0\0\0";
 
-const ALLOC: &[u8] =
+/// An allocation of `abc` under the clients' token.
+pub const ALLOC: &[u8] =
     b"POST /api/v1/scheduler/alloc_job HTTP/1.1\r\nAuthorization: Bearer c1\r\nContent-Type: application/octet-stream\r\nContent-Length: 72\r\n\r\n\x40\0\0\0\0\0\0\0ba7816bf8f01cfea414140de5dae2223b00361a396177a9cb410ff61f20015ad";
 
 /// Whether the text stands somewhere in the bytes.
@@ -120,14 +120,14 @@ fn holds(bytes: &[u8], text: &[u8]) -> bool {
 }
 
 /// The connection of a request that was answered.
-fn reply<R: Abort + Wait>(rt: &R, alloc: Global, desk: &mut Desk, request: &[u8]) -> MemLink {
+pub fn reply<R: Abort + Wait>(rt: &R, alloc: Global, desk: &mut Desk, request: &[u8]) -> MemLink {
     let mut link = link(rt, alloc, request, &[], &[]);
     assert!(rt; serve(rt, alloc, desk, &mut link) == Served::Answered);
     link
 }
 
 /// A heartbeat is answered.
-fn beat<R: Abort + Wait>(rt: &R, alloc: Global, desk: &mut Desk) {
+pub fn beat<R: Abort + Wait>(rt: &R, alloc: Global, desk: &mut Desk) {
     let beat = reply(rt, alloc, desk, BEAT);
     assert!(rt; beat.sink().bytes().starts_with(b"HTTP/1.1 200 OK\r\n"));
 }
@@ -178,7 +178,7 @@ fn asked_once(rt: &impl Abort, desk: &Desk) {
 }
 
 /// The end of the reply to a status: one server, one processor and one job.
-const COUNTS: &[u8] = &[
+pub const COUNTS: &[u8] = &[
     1, 0, 0, 0, 0, 0, 0, 0, 1, 0, 0, 0, 0, 0, 0, 0, 1, 0, 0, 0, 0, 0, 0, 0,
 ];
 

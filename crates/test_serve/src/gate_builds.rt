@@ -18,7 +18,7 @@ use toolchain_cache::TcCache;
 use url::Url;
 
 /// Where the scheduler stands.
-const SCHEDULER: &str = "http://127.0.0.1:10600";
+pub const SCHEDULER: &str = "http://127.0.0.1:10600";
 
 /// How many bytes the cache of archives has room for.
 const CACHE_BYTES: u64 = 1_000;
@@ -36,7 +36,7 @@ fn kit<'a>(rt: &impl Abort, alloc: Global, gate: &'a Gate) -> OneKit<'a> {
 }
 
 /// A server that holds nothing.
-fn empty_server(rt: &impl Abort, alloc: Global) -> Server<ReliableFolder> {
+pub fn empty_server(rt: &impl Abort, alloc: Global) -> Server<ReliableFolder> {
     match TcCache::new(alloc, ReliableFolder::new(alloc), "tc", CACHE_BYTES) {
         Ok(cache) => Server::new(alloc, ServerState::new(alloc, cache)),
         Err(_) => panic!(rt; "memory"),

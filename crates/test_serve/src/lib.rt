@@ -15,8 +15,12 @@ mod gate;
 #[cfg(test)]
 mod gate_builds;
 #[cfg(test)]
+mod hostile;
+#[cfg(test)]
 mod loopback;
 #[cfg(test)]
 mod server_loopback;
 #[cfg(test)]
 mod slow;
+#[cfg(test)]
+mod starts;

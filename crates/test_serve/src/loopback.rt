@@ -30,10 +30,10 @@ pub fn free_port<R: Abort + Net>(rt: &R) -> u16 {
     listener.local_addr().expect(rt, "an address").port()
 }
 
-/// Asks for the status until there is a reply.
-fn ask<R: Clock, D: Dialer>(rt: &R, dialer: &mut D, port: u16) -> Option<Vec<u8>> {
+/// Asks until there is a reply.
+fn ask<R: Clock, D: Dialer>(rt: &R, dialer: &mut D, port: u16, request: &[u8]) -> Option<Vec<u8>> {
     for _ in 0..MAX_TRIES {
-        match dialer.ask("127.0.0.1", port, STATUS) {
+        match dialer.ask("127.0.0.1", port, request) {
             Ok(reply) => return Some(reply),
             Err(_) => thread::sleep(rt, Duration::from_millis(10)),
         }
@@ -41,10 +41,20 @@ fn ask<R: Clock, D: Dialer>(rt: &R, dialer: &mut D, port: u16) -> Option<Vec<u8>
     None
 }
 
+/// The reply to a request at this port, once there is one.
+pub fn reply_to<R: Net + Clock>(
+    rt: &R,
+    alloc: Global,
+    port: u16,
+    request: &[u8],
+) -> Option<Vec<u8>> {
+    let mut dialer = TcpDialer::new(alloc, rt);
+    ask(rt, &mut dialer, port, request)
+}
+
 /// The reply to a status request at this port, once there is one.
 pub fn reply<R: Net + Clock>(rt: &R, alloc: Global, port: u16) -> Option<Vec<u8>> {
-    let mut dialer = TcpDialer::new(alloc, rt);
-    ask(rt, &mut dialer, port)
+    reply_to(rt, alloc, port, STATUS)
 }
 
 /// The counts of servers, processors and jobs that a reply tells.

@@ -111,6 +111,8 @@ impl<'a> BuilderIncoming for Builder<'a> {
 
     ghost refusals = { λ b. b.refusals };
 
+    ghost answers = { λ _. None };
+
     fn run_build(
         &mut self,
         _toolchain: &Toolchain,

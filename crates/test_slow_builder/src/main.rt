@@ -51,6 +51,8 @@ impl<R: Clock> BuilderIncoming for SlowBuilder<'_, R> {
 
     ghost refusals = { λ _. 0 };
 
+    ghost answers = { λ _. None };
+
     fn run_build(
         &mut self,
         toolchain: &Toolchain,

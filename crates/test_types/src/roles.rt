@@ -189,6 +189,8 @@ impl BuilderIncoming for MemBuilder {
 
     ghost refusals = { λ b. b.refusals };
 
+    ghost answers = { λ _. None };
+
     fn run_build(
         &mut self,
         _toolchain: &Toolchain,

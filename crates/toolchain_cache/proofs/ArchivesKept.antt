@@ -5,7 +5,7 @@ use Rattle.std.specs.Str.{bytes_eq}
 use Rattle.folders.specs.Files.{Files, file_at, put, put_found, without, moved, PartWritten}
 use Rattle.folders.specs.Files.{DoneOrNot, Same}
 use Rattle.folders.specs.Held.{Held, Lacks, Never, Became, Changes}
-use Rattle.folders.specs.declared.fault.FolderFault.{FolderFault}
+use Rattle.dist_types.specs.declared.folder_fault.FolderFault.{FolderFault}
 use Rattle.folders.specs.Changed.{IsOutside}
 use Rattle.toolchain_cache.specs.Archives.{Archives, archive_key, archive_path, archives_in, IsInStep}
 use Rattle.folders.proofs.Became.{became_of, became_from}

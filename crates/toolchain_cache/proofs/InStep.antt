@@ -9,7 +9,7 @@ use Rattle.std.specs.Str.{bytes_eq}
 use Rattle.std.proofs.lemmas.List.Elements.{filter_map-append}
 use Rattle.std.proofs.lemmas.Slice.Eq.{bytes_eq-Decides}
 use Rattle.folders.specs.Files.{Files, file_at, front, without, put, touched, put_found}
-use Rattle.lru_disk_cache.specs.Key.{temp_name}
+use Rattle.lru_disk_cache.specs.Key.{insert_name}
 use Rattle.lru_disk_cache.specs.Entries.{Entries, trim, promoted_key}
 use Rattle.lru_disk_cache.specs.Disk.{Avoids, dropped, without_each, files_stored, without_key, stored}
 use Rattle.toolchain_cache.specs.Archives.{Archives, id_of, archive_of, archive_key, archive_path, archive_in}
@@ -49,14 +49,14 @@ path_once path a b = same_front (front path) (archive_key a) (archive_key b)
         absurd (true≢false (sym ((bytes_eq-Decides (archive_key a) (archive_key b)).1
         (ap archive_key ((bytes_eq-Decides a b).0 q))) ∙ p))
 
-slash_differs : (n : ℕ) (key : List ℕ) → get_or key 1 0 ≡ 47 → bytes_eq (temp_name n) key ≡ false
-unfolding temp_name
-slash_differs n key second = by (bytes_eq (temp_name n) key) refl
+slash_differs : (n : ℕ) (key : List ℕ) → get_or key 1 0 ≡ 47 → bytes_eq (insert_name n) key ≡ false
+unfolding insert_name
+slash_differs n key second = by (bytes_eq (insert_name n) key) refl
   where
-    by : (b : Bool) → bytes_eq (temp_name n) key ≡ b → b ≡ false
+    by : (b : Bool) → bytes_eq (insert_name n) key ≡ b → b ≡ false
     by false is = refl
     by true is =
-        let same : temp_name n ≡ key = (bytes_eq-Decides (temp_name n) key).0 is in
+        let same : insert_name n ≡ key = (bytes_eq-Decides (insert_name n) key).0 is in
         let both : 115 ≡ 47 = ap (λ (l : List ℕ). get_or l 1 0) same ∙ second in
         absurd (omega (arith, both))
 
@@ -67,7 +67,7 @@ slash_second (x ∷ []) = refl
 slash_second (x ∷ y ∷ id) = refl
 
 -- no archive has the name of a temporary file
-pub temp_no_key : (n : ℕ) (id : List ℕ) → bytes_eq (temp_name n) (archive_key id) ≡ false
+pub temp_no_key : (n : ℕ) (id : List ℕ) → bytes_eq (insert_name n) (archive_key id) ≡ false
 temp_no_key n id = slash_differs n (archive_key id) (slash_second id)
 
 pub in_more : (path : List ℕ) (f : List ℕ × List ℕ) (fs : Files) (b : Bool)
@@ -164,11 +164,11 @@ in_each path root (g ∷ gone) fs is keys =
     ∙ in_without path (id_in g.0) fs)
 
 keys_avoid : (path root : List ℕ) (n : ℕ) (es : Entries) → AllArchiveKeys es
-    → Avoids root (root ++ temp_name n) es
+    → Avoids root (root ++ insert_name n) es
 keys_avoid path root n [] keys = tt
 keys_avoid path root n (e ∷ es) keys = (
-  same_front root e.0 (temp_name n)
-      ∙ (ap (λ k. bytes_eq k (temp_name n)) keys.0.path ∙ apart (temp_name n) (archive_key (id_in e.0))
+  same_front root e.0 (insert_name n)
+      ∙ (ap (λ k. bytes_eq k (insert_name n)) keys.0.path ∙ apart (insert_name n) (archive_key (id_in e.0))
       (temp_no_key n (id_in e.0))),
   keys_avoid path root n es keys.1,
 )
@@ -178,12 +178,12 @@ pub in_stored : (path id bytes : List ℕ) (n limit : ℕ) (gone : Entries) (es 
     → id_of bytes ≡ id → AllArchiveKeys gone → unkeyed gone ≡ dropped limit (without_key id es)
     → IsDistinct bytes_eq (keys_of es)
     → archives_in path fs ≡ es
-    → archives_in path (files_stored (front path) (front path ++ temp_name n)
+    → archives_in path (files_stored (front path) (front path ++ insert_name n)
     (archive_path path id) bytes gone fs) ≡ stored id (length bytes) limit es
 in_stored path id bytes n limit gone es fs is keys gone_is distinct in_step =
-    let temp = front path ++ temp_name n in
+    let temp = front path ++ insert_name n in
     let away : (k : List ℕ) → bytes_eq temp (archive_path path k) ≡ false = λ k. same_front (front path)
-    (temp_name n) (archive_key k) ∙ temp_no_key n k in
+    (insert_name n) (archive_key k) ∙ temp_no_key n k in
     let two = without_each (front path) gone (put temp bytes fs) in
     let found : file_at two temp ≡ Some bytes = there_still (front path) temp bytes gone (put temp bytes fs)
     (keys_avoid path (front path) n gone keys) (put_same temp bytes fs) in

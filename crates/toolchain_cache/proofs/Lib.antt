@@ -10,6 +10,7 @@ pub mod KeyLemmas
 pub mod OtherKeys
 pub mod OverFolder
 pub mod Sparing
+pub mod SpoiledArchives
 pub mod StoredLemmas
 pub mod TcSteps
 pub mod Unkeyed

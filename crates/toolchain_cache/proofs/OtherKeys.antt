@@ -10,7 +10,7 @@ use Rattle.folders.specs.Files.{Files}
 use Rattle.folders.specs.Held.{Held, Holds}
 use Rattle.lru_disk_cache.specs.Entries.{Entries}
 use Rattle.lru_disk_cache.specs.Disk.{without_key}
-use Rattle.lru_disk_cache.specs.declared.error.Error.{Error}
+use Rattle.dist_types.specs.declared.cache_error.Error.{Error}
 use Rattle.toolchain_cache.specs.Cleaned.{is_archive_key, are_archive_keys, other_keys, without_keys}
 
 -- ---- those that are none's

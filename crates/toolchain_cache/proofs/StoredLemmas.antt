@@ -8,10 +8,10 @@ use Rattle.folders.specs.Files.{Files, file_at, front, touched, without}
 use Rattle.folders.specs.Held.{Held, Became, BecameBy}
 use Rattle.folders.specs.Changed.{ButAt}
 use Rattle.folders.proofs.Became.{became_map, became_same}
-use Rattle.lru_disk_cache.specs.declared.error.Error.{Error}
-use Rattle.lru_disk_cache.specs.declared.error.Error.TheVariants.{Memory as NoMemory}
+use Rattle.dist_types.specs.declared.cache_error.Error.{Error}
+use Rattle.dist_types.specs.declared.cache_error.Error.TheVariants.{Memory as NoMemory}
 use Rattle.lru_disk_cache.specs.Entries.{Entries, trim}
-use Rattle.lru_disk_cache.specs.Disk.{Keeps, IsTemp, staying, dropped, files_stored, without_key}
+use Rattle.lru_disk_cache.specs.Disk.{Keeps, IsInsertTemp, staying, dropped, files_stored, without_key}
 use Rattle.lru_disk_cache.specs.Store.{Disk, room_beside, LookUpFails, RemoveFails}
 use Rattle.lru_metered.proofs.Lookups.{others-none}
 use Rattle.toolchain_cache.specs.Archives.{Archives, is_id, archive_key, archive_path}
@@ -83,7 +83,7 @@ kept_archives id key bytes d held old new (Ok x) fit is h kept =
 
 pub placed_archive : (id key bytes : List ℕ) (d : Disk) (held old new : Held)
     (result : Result (Unit {0}) Error) → is_id id ≡ true → key ≡ archive_key id → IsKeyed held d
-    → OnOk result ((temp : List ℕ) × IsTemp d.root temp
+    → OnOk result ((temp : List ℕ) × IsInsertTemp d.root temp
     × BecameBy (files_stored d.root temp (d.root ++ key) bytes
     (dropped (room_beside d (length bytes)) (without_key key d.entries))) old.files new.files)
     → OnOk result (PlacesArchive d.path id bytes (dropped_for d.capacity id (length bytes)
@@ -103,7 +103,7 @@ placed_archive id key bytes d held old new (Ok x) fit is h exact =
     let P : List ℕ → List ℕ → Entries → Type 0 = λ r p l. BecameBy (files_stored r exact.0 p bytes l)
     old.files new.files in (
       exact.0,
-      subst (λ r. IsTemp r exact.0) h.root exact.1,
+      subst (λ r. IsInsertTemp r exact.0) h.root exact.1,
       subst (λ l. P (front d.path) (archive_path d.path id) l) keyed
           (subst (λ p. P (front d.path) p gone) (path_is id key d h.root is)
           (subst (λ r. P r (d.root ++ key) gone) h.root exact.2)),

@@ -10,15 +10,15 @@ use Rattle.std.proofs.lemmas.Bool.Decides.{nat_tests}
 use Rattle.std.proofs.lemmas.Slice.Eq.{bytes_eq-Decides}
 use Rattle.lru_metered.proofs.Lookups.{others-none}
 use Rattle.folders.specs.Files.{Files, file_at, front, touched, without}
-use Rattle.lru_disk_cache.specs.Key.{is_key, temp_name}
+use Rattle.lru_disk_cache.specs.Key.{is_key, insert_name}
 use Rattle.folders.specs.Held.{Held, Holds, Became, BecameBy, Lacks}
-use Rattle.lru_disk_cache.specs.declared.error.Error.{Error}
-use Rattle.lru_disk_cache.specs.declared.error.Error.TheVariants.{FileTooLarge, FileNotInCache, Io}
-use Rattle.lru_disk_cache.specs.declared.error.Error.TheVariants.{PendingSpace, BadKey, NotPending}
-use Rattle.lru_disk_cache.specs.declared.error.Error.TheVariants.{WrongDigest, WriterRefused}
-use Rattle.lru_disk_cache.specs.declared.error.Error.TheVariants.{Memory as NoMemory}
+use Rattle.dist_types.specs.declared.cache_error.Error.{Error}
+use Rattle.dist_types.specs.declared.cache_error.Error.TheVariants.{FileTooLarge, FileNotInCache, Io}
+use Rattle.dist_types.specs.declared.cache_error.Error.TheVariants.{PendingSpace, BadKey, NotPending}
+use Rattle.dist_types.specs.declared.cache_error.Error.TheVariants.{WrongDigest, WriterRefused}
+use Rattle.dist_types.specs.declared.cache_error.Error.TheVariants.{Memory as NoMemory}
 use Rattle.lru_disk_cache.specs.Entries.{Entries, promoted_key}
-use Rattle.lru_disk_cache.specs.Disk.{Keeps, IsTemp, Left, staying, dropped, files_stored}
+use Rattle.lru_disk_cache.specs.Disk.{Keeps, IsInsertTemp, Left, staying, dropped, files_stored}
 use Rattle.folders.specs.Changed.{SameAt, SameBelow}
 use Rattle.lru_disk_cache.specs.Disk.{without_key}
 use Rattle.lru_disk_cache.specs.Reserved.{held_size}
@@ -381,14 +381,14 @@ path_is id key d root is = λ i. root i ++ is i
 pub stored_in_step : (id key bytes : List ℕ) (d e : Disk) (old new : Held) (result : Result (Unit {0}) Error)
     → is_id id ≡ true → key ≡ archive_key id → id_of bytes ≡ id → IsKeyed old d
     → IsDistinct bytes_eq (keys_of (unkeyed d.entries)) → OnOk result (e ≡ inserted d key (length bytes))
-    → OnOk result ((temp : List ℕ) × IsTemp d.root temp
+    → OnOk result ((temp : List ℕ) × IsInsertTemp d.root temp
     × BecameBy (files_stored d.root temp (d.root ++ key) bytes
     (dropped (room_beside d (length bytes)) (without_key key d.entries))) old.files new.files)
     → IsInStep d.path old (unkeyed d.entries) → OnOk result (IsInStep e.path new (unkeyed e.entries))
 stored_in_step id key bytes d e old new (Err x) fit is digest h distinct ok exact in_step = tt
 stored_in_step id key bytes d e old new (Ok x) fit is digest h distinct ok exact in_step =
     let w = exact.1 in
-    let temp_is : exact.0 ≡ front d.path ++ temp_name w.0 = w.2 ∙ ap (λ r. r ++ temp_name w.0) h.root in
+    let temp_is : exact.0 ≡ front d.path ++ insert_name w.0 = w.2 ∙ ap (λ r. r ++ insert_name w.0) h.root in
     let gone = dropped (room_beside d (length bytes)) (without_key key d.entries) in
     let gone_is : unkeyed gone ≡ dropped (d.capacity - length bytes) (without_key id (unkeyed d.entries)) =
     sym (dropped_un (room_beside d (length bytes)) (without_key key d.entries))

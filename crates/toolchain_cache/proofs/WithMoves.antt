@@ -2,29 +2,31 @@
 use Rattle.std.proofs.Common.{ℕ, List}
 use Rattle.std.proofs.Common.{Result, Ok, Err, IfErr, inl, inr, refl}
 use Rattle.folders.specs.Held.{Held}
-use Rattle.lru_disk_cache.specs.declared.error.Error.{Error}
-use Rattle.lru_disk_cache.specs.declared.error.Error.TheVariants.{FileTooLarge, FileNotInCache, Io}
-use Rattle.lru_disk_cache.specs.declared.error.Error.TheVariants.{PendingSpace, BadKey, NotPending}
-use Rattle.lru_disk_cache.specs.declared.error.Error.TheVariants.{WrongDigest, WriterRefused}
-use Rattle.lru_disk_cache.specs.declared.error.Error.TheVariants.{Memory as NoMemory}
+use Rattle.dist_types.specs.declared.cache_error.Error.{Error}
+use Rattle.dist_types.specs.declared.cache_error.Error.TheVariants.{FileTooLarge, FileNotInCache, Io}
+use Rattle.dist_types.specs.declared.cache_error.Error.TheVariants.{PendingSpace, BadKey, NotPending}
+use Rattle.dist_types.specs.declared.cache_error.Error.TheVariants.{WrongDigest, WriterRefused}
+use Rattle.dist_types.specs.declared.cache_error.Error.TheVariants.{Memory as NoMemory}
 use Rattle.lru_disk_cache.specs.declared.error.WriteFault.{WriteFault}
 use Rattle.toolchain_cache.specs.Archives.{Archives}
 use Rattle.toolchain_cache.specs.Archiving.{StoreFails}
 use Rattle.lru_disk_cache.specs.Moving.{WriterFails}
+use Rattle.lru_disk_cache.specs.Spoiling.{MaySpoil}
 use Rattle.toolchain_cache.specs.Archiving.{StoreWithFails}
 
 module _ (wrote : Result (Unit {0}) WriteFault → List ℕ → Type 0) where
-  pub store_failed : (capacity : ℕ) (id : List ℕ) (a : Archives) (error : Error) (old : Held)
-      → WriterFails wrote error → StoreWithFails wrote capacity id error a a old old
-  store_failed capacity id a WriterRefused old h = (refl, refl, h)
-  store_failed capacity id a NoMemory old h = inl (refl, refl)
-  store_failed capacity id a BadKey old h = absurd h
-  store_failed capacity id a FileTooLarge old h = absurd h
-  store_failed capacity id a FileNotInCache old h = absurd h
-  store_failed capacity id a (Io fault) old h = absurd h
-  store_failed capacity id a PendingSpace old h = absurd h
-  store_failed capacity id a NotPending old h = absurd h
-  store_failed capacity id a WrongDigest old h = absurd h
+  pub store_failed : (capacity : ℕ) (id : List ℕ) (a : Archives) (error : Error) (spoiled : ℕ) (old : Held)
+      → WriterFails wrote error
+      → StoreWithFails wrote capacity id error a a old old × MaySpoil error spoiled spoiled old old
+  store_failed capacity id a WriterRefused spoiled old h = ((refl, refl, h), (refl, refl))
+  store_failed capacity id a NoMemory spoiled old h = (inl (refl, refl), inr (refl, refl))
+  store_failed capacity id a BadKey spoiled old h = absurd h
+  store_failed capacity id a FileTooLarge spoiled old h = absurd h
+  store_failed capacity id a FileNotInCache spoiled old h = absurd h
+  store_failed capacity id a (Io fault) spoiled old h = absurd h
+  store_failed capacity id a PendingSpace spoiled old h = absurd h
+  store_failed capacity id a NotPending spoiled old h = absurd h
+  store_failed capacity id a WrongDigest spoiled old h = absurd h
 
   pub store_fails : (capacity : ℕ) (id bytes : List ℕ) (a b : Archives) (result : Result (Unit {0}) Error)
       (old new : Held) → wrote (Ok (tt {0})) bytes

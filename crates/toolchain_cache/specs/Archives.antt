@@ -69,12 +69,14 @@ IsInStep path held archives = Holds held (λ files. archives_in path files ≡ a
 abbrev pub paths_under : List ℕ → Files → List (List ℕ)
 paths_under path files = map (λ f. f.0) (filter (λ f. is_behind (front path) f.0) files)
 
--- the path of a cache, its capacity, its archives, least recent first, and its folder
+-- the path of a cache, its capacity, its archives, least recent first, its folder, and how many inserts
+-- failed
 pub record ArchiveStore (F : Type 0) : Type 0 where
   pub path : List ℕ
   pub capacity : ℕ
   pub archives : Archives
   pub folder : F
+  pub spoiled : ℕ
 
 -- What holds of a cache of archives over a folder, whatever failed so far: the ids are ids and differ, the
 -- sizes fit the capacity, and each archive has a file of its size whose SHA-256 is its id, where files are

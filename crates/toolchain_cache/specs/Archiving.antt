@@ -6,11 +6,11 @@ use Rattle.std.specs.Map.{lookup}
 use Rattle.std.specs.Str.{bytes_eq}
 use Rattle.folders.specs.Files.{Files}
 use Rattle.folders.specs.Held.{Held}
-use Rattle.lru_disk_cache.specs.declared.error.Error.{Error}
-use Rattle.lru_disk_cache.specs.declared.error.Error.TheVariants.{FileTooLarge, FileNotInCache, Io}
-use Rattle.lru_disk_cache.specs.declared.error.Error.TheVariants.{PendingSpace, BadKey, NotPending}
-use Rattle.lru_disk_cache.specs.declared.error.Error.TheVariants.{WrongDigest, WriterRefused}
-use Rattle.lru_disk_cache.specs.declared.error.Error.TheVariants.{Memory as NoMemory}
+use Rattle.dist_types.specs.declared.cache_error.Error.{Error}
+use Rattle.dist_types.specs.declared.cache_error.Error.TheVariants.{FileTooLarge, FileNotInCache, Io}
+use Rattle.dist_types.specs.declared.cache_error.Error.TheVariants.{PendingSpace, BadKey, NotPending}
+use Rattle.dist_types.specs.declared.cache_error.Error.TheVariants.{WrongDigest, WriterRefused}
+use Rattle.dist_types.specs.declared.cache_error.Error.TheVariants.{Memory as NoMemory}
 use Rattle.lru_disk_cache.specs.Entries.{total, promoted_key}
 use Rattle.lru_disk_cache.specs.Disk.{Left, stored, dropped, without_key}
 use Rattle.lru_disk_cache.specs.Store.{IoCause}

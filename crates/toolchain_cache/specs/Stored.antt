@@ -3,7 +3,7 @@ use Rattle.std.specs.Prelude.{◌≡◌, ℕ, ◌-◌, List}
 use Rattle.std.specs.List.{AllByRecursion}
 use Rattle.folders.specs.Files.{Files, file_at, front}
 use Rattle.folders.specs.Held.{Held, BecameBy}
-use Rattle.lru_disk_cache.specs.Disk.{IsTemp, staying, files_stored}
+use Rattle.lru_disk_cache.specs.Disk.{IsInsertTemp, staying, files_stored}
 use Rattle.toolchain_cache.specs.Archives.{Archives, archive_path, opened_archives}
 use Rattle.toolchain_cache.specs.Keyed.{with_keys}
 
@@ -28,5 +28,5 @@ archive_placed path temp id bytes gone files =
 
 -- that is what the files became, by way of some temporary file of the cache
 abbrev pub PlacesArchive : List ℕ → List ℕ → List ℕ → Archives → Held → Held → Type 0
-PlacesArchive path id bytes gone old new = (temp : List ℕ) × IsTemp (front path) temp
+PlacesArchive path id bytes gone old new = (temp : List ℕ) × IsInsertTemp (front path) temp
     × BecameBy (archive_placed path temp id bytes gone) old.files new.files

@@ -19,6 +19,7 @@ pub(crate) fn drop_others<F: Folder>(alloc: Global, cache: &mut LruDiskCache<F>)
         ⊎ NoneTold (F.held cache.old.folder) (F.held cache.new.folder) }
     ensures keys { OnOk result (are_archive_keys cache.new.disk.entries ≡ true) }
     ensures place { cache.new.disk ≡ record cache.old.disk { entries = cache.new.disk.entries } }
+    ensures unspoiled { cache.new.spoiled ≡ cache.old.spoiled }
     ensures steady { OnOk result ((F.held cache.new.folder).faults ≡ (F.held cache.old.folder).faults) }
     ensures fails { IfErr result (λ e. OpenFails e (F.held cache.old.folder) (F.held cache.new.folder)) }
     ensures uncounted { IfErr result (λ e. Uncounted e (F.held cache.old.folder) (F.held cache.new.folder)) }
@@ -41,6 +42,7 @@ fn drop_each<F: Folder>(cache: &mut LruDiskCache<F>, others: &[Text]) -> Result<
     ensures keys { OnOk result
         (cache.new.disk.entries ≡ without_keys others.now cache.old.disk.entries) }
     ensures place { cache.new.disk ≡ record cache.old.disk { entries = cache.new.disk.entries } }
+    ensures unspoiled { cache.new.spoiled ≡ cache.old.spoiled }
     ensures steady { OnOk result ((F.held cache.new.folder).faults ≡ (F.held cache.old.folder).faults) }
     ensures fails { IfErr result (λ e. OpenFails e (F.held cache.old.folder) (F.held cache.new.folder)) }
     ensures uncounted { IfErr result (λ e. Uncounted e (F.held cache.old.folder) (F.held cache.new.folder)) }

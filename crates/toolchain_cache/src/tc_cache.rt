@@ -10,13 +10,14 @@ ghost use Rattle.lru_disk_cache.specs.Entries.{total, promoted_key};
 ghost use Rattle.folders.specs.Changed.{RemovedOrSame};
 ghost use Rattle.lru_disk_cache.specs.Disk.{IsBeside};
 ghost use Rattle.folders.specs.Changed.{ButAt, ButUnder, SameAt, OnlyRemoved, RemovedUnder, IsOutside};
-ghost use Rattle.lru_disk_cache.specs.Disk.{without_key};
+ghost use Rattle.lru_disk_cache.specs.Disk.{without_key, ButInsert, KeepsSpoiled};
 ghost use Rattle.toolchain_cache.specs.Archives.{id_of, archive_path, opened_archives, paths_under, IsInStep};
 ghost use Rattle.toolchain_cache.specs.Archives.{IsArchiveStore};
 ghost use Rattle.toolchain_cache.specs.Cleaned.{are_archive_keys, NoneTold};
 ghost use Rattle.toolchain_cache.specs.Keyed.{unkeyed, AllHold};
 ghost use Rattle.toolchain_cache.specs.Archiving.{archive_verdict, with_archive, StoreFails, FindFails};
 ghost use Rattle.toolchain_cache.specs.Archiving.{DropFails, Relists, dropped_for};
+ghost use Rattle.lru_disk_cache.specs.Spoiling.{MaySpoil};
 ghost use Rattle.toolchain_cache.specs.Stored.{KeepsArchives, KeepsListed, PlacesArchive, staying_for};
 ghost use Rattle.lru_disk_cache.specs.Moving.{Wrote};
 ghost use Rattle.toolchain_cache.specs.Archiving.{StoreWithFails};
@@ -52,6 +53,7 @@ impl<F: Folder> Model for TcCache<F> {
       capacity = t.cache.disk.capacity;
       archives = unkeyed t.cache.disk.entries;
       folder = t.cache.folder;
+      spoiled = t.cache.spoiled;
     } };
 
     ghost invariant = { λ t. IsKeyed (F.held t.cache.folder) t.cache.disk };
@@ -75,6 +77,7 @@ impl<F: Folder> TcCache<F> {
             (λ t. Holds (F.held folder)
             (λ files. t.archives ≡ opened_archives cache_dir.now cache_size files)) }
         ensures at { IfOk result (λ t. (t.path ≡ cache_dir.now) × (t.capacity ≡ cache_size)) }
+        ensures begun { IfOk result (λ t. t.spoiled ≡ 0) }
         ensures relists { IfOk result
             (λ t. Holds (F.held folder) (λ files. Relists cache_dir.now cache_size files t.archives)) }
         ensures in_step { IfOk result (λ t. IsInStep cache_dir.now (F.held t.folder) t.archives) }
@@ -173,8 +176,9 @@ impl<F: Folder> TcCache<F> {
     /// Refused as `Error::WrongDigest`, where the SHA-256 of the bytes is not the toolchain's id, and as
     /// `Error::FileTooLarge`, in this order, which leave all as it was; then as `Error::Io` or for want of
     /// memory, which leave the list as it was, or the archive unlisted and some of the least recent gone,
-    /// none more than had to go. The file of the archive is as it was or has all the bytes.
-    #[tactic(auto, using(lru_disk_cache::proofs::Spared::all_same, crate::proofs::StoredLemmas::archives_stay))]
+    /// none more than had to go. The file of the archive is as it was or has all the bytes. What was written
+    /// of the temporary file stays until the next opening, and is touched by no call before that.
+    #[tactic(auto, using(lru_disk_cache::proofs::Spared::all_same, lru_disk_cache::proofs::Spoiled::none_inserted, crate::proofs::StoredLemmas::archives_stay))]
     pub fn insert_bytes(&mut self, tc: &Toolchain, bytes: &[u8]) -> Result<()>
         ensures ok { OnOk result (self.new.archives ≡ with_archive self.old.capacity tc.now
             (length bytes.now) self.old.archives) }
@@ -210,6 +214,12 @@ impl<F: Folder> TcCache<F> {
         ensures uncounted { IfErr result
             (λ e. Uncounted e (F.held self.old.folder) (F.held self.new.folder)) }
         ensures later { (F.held self.old.folder).faults ≤ (F.held self.new.folder).faults }
+        ensures stays { Became (ButInsert (front self.old.path) self.old.spoiled)
+            (F.held self.old.folder).files (F.held self.new.folder).files }
+        ensures unspoiled { OnOk result (self.new.spoiled ≡ self.old.spoiled) }
+        ensures spoils { IfErr result
+            (λ e. MaySpoil e self.old.spoiled self.new.spoiled (F.held self.old.folder)
+            (F.held self.new.folder)) }
         ensures stands { IsArchiveStore self.new.path self.new.capacity self.new.archives
             (F.held self.new.folder) }
     {
@@ -251,6 +261,7 @@ impl<F: Folder> TcCache<F> {
         ensures uncounted { IfErr result
             (λ e. Uncounted e (F.held self.old.folder) (F.held self.new.folder)) }
         ensures later { (F.held self.old.folder).faults ≤ (F.held self.new.folder).faults }
+        ensures unspoiled { self.new.spoiled ≡ self.old.spoiled }
         ensures stands { IsArchiveStore self.new.path self.new.capacity self.new.archives
             (F.held self.new.folder) }
     {
@@ -292,6 +303,7 @@ impl<F: Folder> TcCache<F> {
         ensures uncounted { IfErr result
             (λ e. Uncounted e (F.held self.old.folder) (F.held self.new.folder)) }
         ensures later { (F.held self.old.folder).faults ≤ (F.held self.new.folder).faults }
+        ensures unspoiled { self.new.spoiled ≡ self.old.spoiled }
         ensures stands { IsArchiveStore self.new.path self.new.capacity self.new.archives
             (F.held self.new.folder) }
     {
@@ -305,7 +317,7 @@ impl<F: Folder> TcCache<F> {
     ///
     /// Refused as `Error::Io`, only where it is listed, which leaves it unlisted, and for want of memory,
     /// only where it is, which leaves the list as it was, or the archive unlisted.
-    #[tactic(auto, using(folders::proofs::Exactly::none_removed, crate::proofs::StoredLemmas::archives_stay, crate::proofs::StoredLemmas::one_stays))]
+    #[tactic(auto, using(folders::proofs::Exactly::none_removed, crate::proofs::StoredLemmas::archives_stay, crate::proofs::StoredLemmas::one_stays, lru_disk_cache::proofs::Spoiled::none_spoiled))]
     pub fn remove(&mut self, tc: &Toolchain) -> Result<()>
         ensures ok { OnOk result (self.new.archives ≡ without_key tc.now self.old.archives) }
         ensures gone { OnOk result (IsSome (lookup (bytes_eq tc.now) self.old.archives)
@@ -333,6 +345,9 @@ impl<F: Folder> TcCache<F> {
         ensures uncounted { IfErr result
             (λ e. Uncounted e (F.held self.old.folder) (F.held self.new.folder)) }
         ensures later { (F.held self.old.folder).faults ≤ (F.held self.new.folder).faults }
+        ensures stays { Became (KeepsSpoiled (front self.old.path) self.old.spoiled)
+            (F.held self.old.folder).files (F.held self.new.folder).files }
+        ensures unspoiled { self.new.spoiled ≡ self.old.spoiled }
         ensures stands { IsArchiveStore self.new.path self.new.capacity self.new.archives
             (F.held self.new.folder) }
     {
@@ -353,7 +368,7 @@ impl<F: Folder> TcCache<F> {
     ///
     /// Refused as `Error::WriterRefused` exactly where the closure refuses, which leaves all as it was; then
     /// as `insert_bytes` is.
-    #[tactic(auto, using(lru_disk_cache::proofs::Spared::all_same, crate::proofs::StoredLemmas::archives_stay))]
+    #[tactic(auto, using(lru_disk_cache::proofs::Spared::all_same, lru_disk_cache::proofs::Spoiled::none_inserted, crate::proofs::StoredLemmas::archives_stay))]
     pub fn insert_with<W: FnOnce(&mut Vec<u8>) -> std::result::Result<(), WriteFault>>(
         &mut self,
         tc: &Toolchain,
@@ -392,6 +407,12 @@ impl<F: Folder> TcCache<F> {
         ensures uncounted { IfErr result
             (λ e. Uncounted e (F.held self.old.folder) (F.held self.new.folder)) }
         ensures later { (F.held self.old.folder).faults ≤ (F.held self.new.folder).faults }
+        ensures stays { Became (ButInsert (front self.old.path) self.old.spoiled)
+            (F.held self.old.folder).files (F.held self.new.folder).files }
+        ensures unspoiled { OnOk result (self.new.spoiled ≡ self.old.spoiled) }
+        ensures spoils { IfErr result
+            (λ e. MaySpoil e self.old.spoiled self.new.spoiled (F.held self.old.folder)
+            (F.held self.new.folder)) }
         ensures stands { IsArchiveStore self.new.path self.new.capacity self.new.archives
             (F.held self.new.folder) }
     {
@@ -442,6 +463,12 @@ impl<F: Folder> TcCache<F> {
         ensures uncounted { IfErr result
             (λ e. Uncounted e (F.held self.old.folder) (F.held self.new.folder)) }
         ensures later { (F.held self.old.folder).faults ≤ (F.held self.new.folder).faults }
+        ensures stays { Became (ButInsert (front self.old.path) self.old.spoiled)
+            (F.held self.old.folder).files (F.held self.new.folder).files }
+        ensures unspoiled { OnOk result (self.new.spoiled ≡ self.old.spoiled) }
+        ensures spoils { IfErr result
+            (λ e. MaySpoil e self.old.spoiled self.new.spoiled (F.held self.old.folder)
+            (F.held self.new.folder)) }
         ensures stands { IsArchiveStore self.new.path self.new.capacity self.new.archives
             (F.held self.new.folder) }
     {
@@ -462,6 +489,7 @@ impl<F: Folder> TcCache<F> {
             × (self.new.archives ≡ self.old.archives) }
         ensures in_step { IsInStep self.old.path (F.held self.old.folder) self.old.archives
             → IsInStep self.new.path (F.held self.new.folder) self.new.archives }
+        ensures unspoiled { self.new.spoiled ≡ self.old.spoiled }
         ensures stands { IsArchiveStore self.new.path self.new.capacity self.new.archives
             (F.held self.new.folder) }
     {
@@ -481,6 +509,7 @@ impl<F: Folder> TcCache<F> {
             × (self.new.archives ≡ self.old.archives) }
         ensures in_step { IsInStep self.old.path (F.held self.old.folder) self.old.archives
             → IsInStep self.new.path (F.held self.new.folder) self.new.archives }
+        ensures unspoiled { self.new.spoiled ≡ self.old.spoiled }
         ensures stands { IsArchiveStore self.new.path self.new.capacity self.new.archives
             (F.held self.new.folder) }
     {
@@ -501,6 +530,7 @@ impl<F: Folder> TcCache<F> {
             × (self.new.archives ≡ self.old.archives) }
         ensures in_step { IsInStep self.old.path (F.held self.old.folder) self.old.archives
             → IsInStep self.new.path (F.held self.new.folder) self.new.archives }
+        ensures unspoiled { self.new.spoiled ≡ self.old.spoiled }
         ensures stands { IsArchiveStore self.new.path self.new.capacity self.new.archives
             (F.held self.new.folder) }
     {
@@ -513,7 +543,7 @@ impl<F: Folder> TcCache<F> {
     /// Stores bytes whose SHA-256 is the id of the toolchain, as `insert_bytes` does, and hashes nothing.
     ///
     /// Refused as `Error::FileTooLarge`, which leaves all as it was, and else as `insert_bytes` is.
-    #[tactic(auto, using(lru_disk_cache::proofs::Spared::all_same, crate::proofs::StoredLemmas::archives_stay))]
+    #[tactic(auto, using(lru_disk_cache::proofs::Spared::all_same, lru_disk_cache::proofs::Spoiled::none_inserted, crate::proofs::StoredLemmas::archives_stay))]
     pub fn insert_verified(&mut self, tc: &Toolchain, bytes: &[u8]) -> Result<()>
         requires { id_of bytes.now ≡ tc.now }
         ensures ok { OnOk result (self.new.archives ≡ with_archive self.old.capacity tc.now
@@ -550,6 +580,12 @@ impl<F: Folder> TcCache<F> {
         ensures uncounted { IfErr result
             (λ e. Uncounted e (F.held self.old.folder) (F.held self.new.folder)) }
         ensures later { (F.held self.old.folder).faults ≤ (F.held self.new.folder).faults }
+        ensures stays { Became (ButInsert (front self.old.path) self.old.spoiled)
+            (F.held self.old.folder).files (F.held self.new.folder).files }
+        ensures unspoiled { OnOk result (self.new.spoiled ≡ self.old.spoiled) }
+        ensures spoils { IfErr result
+            (λ e. MaySpoil e self.old.spoiled self.new.spoiled (F.held self.old.folder)
+            (F.held self.new.folder)) }
         ensures stands { IsArchiveStore self.new.path self.new.capacity self.new.archives
             (F.held self.new.folder) }
     {
@@ -602,10 +638,12 @@ impl<F: Folder> TcCache<F> {
               capacity = cache.disk.capacity;
               archives = unkeyed cache.disk.entries;
               folder = cache.folder;
+              spoiled = cache.spoiled;
             }) × (are_archive_keys cache.disk.entries ≡ true))
             ⊎ NoneTold (F.held cache.folder) (F.held t.folder)) }
         ensures at { IfOk result
             (λ t. (t.path ≡ cache.disk.path) × (t.capacity ≡ cache.disk.capacity)) }
+        ensures spoiled { IfOk result (λ t. t.spoiled ≡ cache.spoiled) }
         ensures stands { IfOk result (λ t. IsArchiveStore t.path t.capacity t.archives (F.held t.folder)) }
         ensures steady { IfOk result (λ t. (F.held t.folder).faults ≡ (F.held cache.folder).faults) }
         ensures back { IfErr result (λ e. (e.1 ≡ cache.folder)

@@ -1,6 +1,7 @@
 use Rattle.farm.proofs.AnswerLemmas.{answered, statuses_of, faulty_of, faultless_of, left_of, order_of}
 use Rattle.farm.proofs.AnswerLemmas.{counts_of, no_command_of, command_of, configured_of, served_of, storm_of}
 use Rattle.farm.proofs.AuditAnswerLemmas.{AuditLaws, held_of, refused_of, behind_of}
+use Rattle.farm.proofs.NeedLemmas.{undrawn_of, unserved_of}
 use Rattle.farm.proofs.command.dist_main.Goals as goal
 
 -- what was done, reported
@@ -43,6 +44,12 @@ returns-clause-configured g c = configured_of c.report.result _ _ _ (told g c)
 
 pub returns-clause-served : goal.returns-clause-served
 returns-clause-served g c = served_of c.report.result _ _ _ (told g c)
+
+pub returns-clause-undrawn : goal.returns-clause-undrawn
+returns-clause-undrawn g c = undrawn_of c.report.result _ _ _ (told g c)
+
+pub returns-clause-unserved : goal.returns-clause-unserved
+returns-clause-unserved g c = unserved_of c.report.result _ _ _ (told g c)
 
 pub returns-clause-held : goal.returns-clause-held
 returns-clause-held g c = held_of (record {

@@ -10,17 +10,16 @@ use Rattle.farm_run.proofs.ServerLemmas.{place_found, station_there, are_well}
 use Rattle.farm_run.proofs.StandLemmas.{stands_same, stands_stepped}
 use Rattle.farm_run.proofs.RowLemmas.{answered_of, answered_reaches, scheduler_step, server_core}
 use Rattle.farm_run.proofs.RowLemmas.{nobody_received}
+use Rattle.farm_run.proofs.ResultLemmas.{ok_then, ok_and, ok_on}
 use Rattle.farm_run.proofs.RowLemmas.{server_received, closed_received}
 use Rattle.farm_run.proofs.arrivals.arrive.Goals as goal
 
 pub returns-then-is_scheduler-clause-stations : goal.returns-then-is_scheduler-clause-stations
 returns-then-is_scheduler-clause-stations g c =
-    stands_same c.args.desk.now.setup c.args.entries.now c.args.stations.now.items
-    c.in_ok-made.made.effect c.requires.stations
+    ok_then c.serve.result c.serve.ensures.answered (λ m answered.
+    stands_same c.args.desk.now.setup c.args.entries.now c.args.stations.now.items m.effect c.requires.stations
     (scheduler_step c.args.desk.now.setup c.args.desk.now.state c.args.arrival.now.stamp.number
-    c.args.arrival.now.stamp.at c.args.arrival.now.peer c.args.arrival.now.bytes.now
-    c.in_ok-made.made.effect
-    c.in_ok-made.ensures.answered)
+    c.args.arrival.now.stamp.at c.args.arrival.now.peer c.args.arrival.now.bytes.now m.effect answered))
 
 pub arrive_at-requires : goal.arrive_at-requires
 arrive_at-requires g c = record {
@@ -42,45 +41,47 @@ returns-in-None-clause-stations g c =
     c.requires.stations
     (ap (λ (m : Made). m.effect.step) c.whole.ensures ∙ ap (λ (x : Effect). x.step) c.of_word.ensures)
 
-pub returns-in_ok-made-in-Some-clause-received : goal.returns-in_ok-made-in-Some-clause-received
-returns-in_ok-made-in-Some-clause-received g c =
+pub returns-else-not-runs_at-clause-received : goal.returns-else-not-runs_at-clause-received
+returns-else-not-runs_at-clause-received g c =
     let f = place_found c.args.desk.now.setup c.args.target c.in-Some.place (sym c.in-Some.ensures.place) in
-    let st = c.in_ok-made-in-Some.ensures.there in
+    ok_then c.arrive_at.result (ok_and _ _ c.arrive_at.result c.arrive_at.ensures.answered
+    (ok_and _ _ c.arrive_at.result c.arrive_at.ensures.kept (ok_on _ c.arrive_at.result c.arrive_at.ensures.there)))
+    (λ m is.
+    let st = is.1.1 in
     server_received c.args.desk.now.setup c.args.desk.now.state c.args.entries.now c.args.stations.now.items
     c.args.arrival.now.stamp.number c.args.arrival.now.stamp.at c.args.target
-    c.args.arrival.now.peer c.args.arrival.now.bytes.now c.in-Some.place st.0 c.in_ok-made-in-Some.made f
+    c.args.arrival.now.peer c.args.arrival.now.bytes.now c.in-Some.place st.0 m f
     c.requires.stations st.1 (sym c.is_scheduler.ensures ∙ c.if-is_scheduler.false)
     (sym (c.runs_at.ensures st.0 (ap (λ (xs : List Station). slice_get xs c.in-Some.place)
     c.deref.ensures.value ∙ st.1))
     ∙ c.if-not-runs_at.false)
-    (c.in_ok-made-in-Some.ensures.answered f.server st.0 f.there st.1)
-    (c.in_ok-made-in-Some.ensures.kept f.server st.0 f.there st.1)
+    (is.0 f.server st.0 f.there st.1) (is.1.0 f.server st.0 f.there st.1))
 
-pub returns-in_ok-made-in-Some-clause-stations : goal.returns-in_ok-made-in-Some-clause-stations
-returns-in_ok-made-in-Some-clause-stations g c =
+pub returns-else-not-runs_at-clause-stations : goal.returns-else-not-runs_at-clause-stations
+returns-else-not-runs_at-clause-stations g c =
     let f = place_found c.args.desk.now.setup c.args.target c.in-Some.place (sym c.in-Some.ensures.place) in
-    let st = c.in_ok-made-in-Some.ensures.there in
-    let m = c.in_ok-made-in-Some.made in
+    ok_then c.arrive_at.result (ok_and _ _ c.arrive_at.result c.arrive_at.ensures.answered
+    (ok_and _ _ c.arrive_at.result c.arrive_at.ensures.step (ok_on _ c.arrive_at.result c.arrive_at.ensures.there)))
+    (λ m is.
+    let st = is.1.1 in
     stands_stepped c.args.desk.now.setup c.args.entries.now c.args.stations.now.items
     c.arrive_at.new.stations.items m.effect c.in-Some.place f.server st.0 c.requires.apart
     c.requires.stations
     f.there st.1
     (answered_of c.args.desk.now.setup (now_of f.server st.0) c.args.arrival.now.stamp.number
-    c.args.arrival.now.bytes.now m.effect
-    (c.in_ok-made-in-Some.ensures.answered f.server st.0 f.there st.1))
-    (c.in_ok-made-in-Some.ensures.step f.server st.0 f.there st.1)
+    c.args.arrival.now.bytes.now m.effect (is.0 f.server st.0 f.there st.1))
+    (is.1.0 f.server st.0 f.there st.1)
     (answered_reaches c.args.desk.now.setup (now_of f.server st.0) c.args.arrival.now.stamp.number
-    c.args.arrival.now.bytes.now m.effect
-    (c.in_ok-made-in-Some.ensures.answered f.server st.0 f.there st.1))
+    c.args.arrival.now.bytes.now m.effect (is.0 f.server st.0 f.there st.1)))
 
-pub returns-in_ok-made-in-Some-clause-desk : goal.returns-in_ok-made-in-Some-clause-desk
-returns-in_ok-made-in-Some-clause-desk g c =
+pub returns-else-not-runs_at-clause-desk : goal.returns-else-not-runs_at-clause-desk
+returns-else-not-runs_at-clause-desk g c =
     let f = place_found c.args.desk.now.setup c.args.target c.in-Some.place (sym c.in-Some.ensures.place) in
-    let st = c.in_ok-made-in-Some.ensures.there in
+    ok_then c.arrive_at.result (ok_and _ _ c.arrive_at.result c.arrive_at.ensures.answered
+    (ok_on _ c.arrive_at.result c.arrive_at.ensures.there)) (λ m is.
     ap (λ (o : Option CoreEntry). acted c.args.desk.now o)
-    (sym (server_core c.args.desk.now.setup (now_of f.server st.0) c.args.arrival.now.stamp.number
-    c.args.arrival.now.bytes.now c.in_ok-made-in-Some.made.effect
-    (c.in_ok-made-in-Some.ensures.answered f.server st.0 f.there st.1)))
+    (sym (server_core c.args.desk.now.setup (now_of f.server is.1.0) c.args.arrival.now.stamp.number
+    c.args.arrival.now.bytes.now m.effect (is.0 f.server is.1.0 f.there is.1.1))))
 
 pub returns-then-not-runs_at-clause-stations : goal.returns-then-not-runs_at-clause-stations
 returns-then-not-runs_at-clause-stations g c =

@@ -13,4 +13,5 @@ loop-server-preserved c =
     rw (more, c.in_ok-push.ensures.items, c.in_ok-push-2.ensures.items)
     (own_push (take i c.args.servers.now) c.loop-server.sites.items c.loop-server.stations.items
     c.server-item.result c.in_ok-site.site c.in_ok-site.station c.loop-server.invariant
-    c.in_ok-site.ensures.site c.in_ok-site.ensures.now c.in_ok-site.ensures.well c.in_ok-site.ensures.own)
+    c.in_ok-site.ensures.site c.in_ok-site.ensures.now c.in_ok-site.ensures.well c.in_ok-site.ensures.own
+    c.in_ok-site.ensures.hand)

@@ -1,5 +1,6 @@
 use Rattle.std.proofs.Common.{ap}
 use Rattle.farm_run.specs.declared.desk.Desk.{Desk}
+use Rattle.farm_run.proofs.ResultLemmas.{on_err}
 use Rattle.farm_run.proofs.MadeLemmas.{farm_next}
 use Rattle.farm_run.proofs.run.make.Goals as goal
 
@@ -18,3 +19,8 @@ returns-clause-farm g c =
     (rw (c.deref.ensures.value, c.reserve.ensures.items) at c.in_ok-made.ensures.made)
     (ap (λ (d : Desk). d.setup) c.in_ok-made.ensures.desk)
     (ap (λ (d : Desk). d.state) c.in_ok-made.ensures.desk))
+
+pub returns-in_err-made-clause-cut : goal.returns-in_err-made-clause-cut
+returns-in_err-made-clause-cut g c =
+    on_err c.from_residual-in_err-made.result
+    (rw (c.deref.ensures.value, c.reserve.ensures.items) at c.in_err-made.ensures.cut)

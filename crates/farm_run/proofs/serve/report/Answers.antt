@@ -1,17 +1,20 @@
 use Rattle.std.proofs.Common.{length, sym, ap}
+use Rattle.farm_run.proofs.ResultLemmas.{ok_then}
 use Rattle.farm_run.proofs.ServeLemmas.{reported_answers}
 use Rattle.farm_run.proofs.serve.report.Goals as goal
 
 pub returns-clause-made : goal.returns-clause-made
 returns-clause-made c =
+    ok_then c.told_since.result c.told_since.ensures.effect (λ m told.
     (reported_answers c.args.state.now c.report-reported.new.state c.args.turn.root c.args.turn.at _
     c.args.turn.json c.args.server c.args.job c.args.to c.report-reported.result c.in-Ok.response
-    c.in_ok-effect.effect c.report-reported.ensures.step (ap length (sym c.history-before.ensures.log))
-    c.in-Ok.ensures c.in_ok-effect.ensures).0
+    m.effect c.report-reported.ensures.step (ap length (sym c.history-before.ensures.log))
+    c.in-Ok.ensures told).0)
 
 pub returns-clause-core : goal.returns-clause-core
 returns-clause-core c =
+    ok_then c.told_since.result c.told_since.ensures.effect (λ m told.
     (reported_answers c.args.state.now c.report-reported.new.state c.args.turn.root c.args.turn.at _
     c.args.turn.json c.args.server c.args.job c.args.to c.report-reported.result c.in-Ok.response
-    c.in_ok-effect.effect c.report-reported.ensures.step (ap length (sym c.history-before.ensures.log))
-    c.in-Ok.ensures c.in_ok-effect.ensures).1
+    m.effect c.report-reported.ensures.step (ap length (sym c.history-before.ensures.log))
+    c.in-Ok.ensures told).1)

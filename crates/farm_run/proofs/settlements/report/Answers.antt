@@ -7,11 +7,12 @@ use Rattle.farm_entries.specs.declared.pending.Pending.{Pending}
 use Rattle.farm_entries.specs.Begun.{Keeps, completion_at}
 use Rattle.farm_stations.specs.Stations.{now_of}
 use Rattle.farm_laws.proofs.NextLemmas.{reports_in_core}
-use Rattle.farm_stations.specs.Post.{outside_of}
-use Rattle.farm_entries.specs.Weather.{calm, weather_of}
+use Rattle.farm_stations.specs.Post.{Around, around_of, outside_of}
+use Rattle.farm_entries.specs.Weather.{Outside, calm, weather_of}
 use Rattle.farm_laws.proofs.FreeLemmas.{report_free}
 use Rattle.farm_entries.specs.declared.site.SiteServer.{SiteServer as Site}
-use Rattle.farm_run.proofs.CutLemmas.{cut_as, on_err}
+use Rattle.farm_run.proofs.CutLemmas.{cut_as}
+use Rattle.farm_run.proofs.ResultLemmas.{ok_then, ok_and, ok_on, err_then}
 use Rattle.farm_run.proofs.ServerLemmas.{place_found, are_well}
 use Rattle.farm_run.proofs.StandLemmas.{stands_same, stands_reported}
 use Rattle.farm_run.proofs.RowLemmas.{report_step, no_report, report_there}
@@ -35,23 +36,25 @@ returns-in-None-clause-made g c = (
       (ap (λ (m : Made). m.effect.step) c.whole.ensures ∙ ap (λ (x : Effect). x.step) c.of_word.ensures),
 )
 
-pub returns-in_err-made-in-Some-clause-cut : goal.returns-in_err-made-in-Some-clause-cut
-returns-in_err-made-in-Some-clause-cut g c =
+pub returns-in-Some-clause-cut : goal.returns-in-Some-clause-cut
+returns-in-Some-clause-cut g c =
     let f = place_found c.args.desk.now.setup c.args.back.now.server c.in-Some.place
     (sym c.in-Some.ensures.place) in
-    on_err c.from_residual.result
-    (cut_as (λ (a : Addr). (s : Site) → slice_get c.args.desk.now.setup.servers c.in-Some.place ≡ Some s
-    → s.addr ≡ a) (λ (a : Addr). c.args.back.now.server ≡ a) c.args.desk.now.setup
-    (map outside_of c.args.stations.now.items) (map outside_of c.report_at.new.stations.items)
-    (λ a own. sym f.at ∙ own f.server f.there) c.in_err-made-in-Some.ensures.cut)
+    err_then c.report_at.result c.report_at.ensures.cut
+    (cut_as (λ (a : Addr) (was is : Around). (s : Site)
+    → slice_get c.args.desk.now.setup.servers c.in-Some.place ≡ Some s → s.addr ≡ a)
+    (λ (a : Addr) (was is : Around). c.args.back.now.server ≡ a) c.args.desk.now.setup
+    (map around_of c.args.stations.now.items) (map around_of c.report_at.new.stations.items)
+    (λ a was is own. sym f.at ∙ own f.server f.there))
 
-pub returns-in_ok-made-in-Some-clause-made : goal.returns-in_ok-made-in-Some-clause-made
-returns-in_ok-made-in-Some-clause-made g c =
+pub returns-in-Some-clause-made : goal.returns-in-Some-clause-made
+returns-in-Some-clause-made g c =
     let f = place_found c.args.desk.now.setup c.args.back.now.server c.in-Some.place
     (sym c.in-Some.ensures.place) in
-    let st = c.in_ok-made-in-Some.ensures.there in
-    let m = c.in_ok-made-in-Some.made in
-    let (is, reports) = c.in_ok-made-in-Some.ensures.step f.server st.0 f.there st.1 in
+    ok_then c.report_at.result (ok_and _ _ c.report_at.result c.report_at.ensures.step
+    (ok_on _ c.report_at.result c.report_at.ensures.there)) (λ m all.
+    let st = all.1 in
+    let (is, reports) = all.0 f.server st.0 f.there st.1 in
     let w = weather_of (outside_of st.0) (outside_of is.after) in (
       w,
       report_there w c.args.desk.now.setup c.args.entries.now c.args.stations.now.items c.args.back.now.life
@@ -64,29 +67,30 @@ returns-in_ok-made-in-Some-clause-made g c =
           (report_step w c.args.desk.now.setup c.args.back.now.life (now_of f.server st.0)
           c.args.back.now.brought.now c.args.back.now.root c.args.back.now.json
           (option_copied c.args.back.now.reply) c.args.told m.effect reports) is,
-    )
+    ))
 
-pub returns-in_ok-made-in-Some-clause-kept : goal.returns-in_ok-made-in-Some-clause-kept
-returns-in_ok-made-in-Some-clause-kept g c =
+pub returns-in-Some-clause-kept : goal.returns-in-Some-clause-kept
+returns-in-Some-clause-kept g c =
     let f = place_found c.args.desk.now.setup c.args.back.now.server c.in-Some.place
     (sym c.in-Some.ensures.place) in
-    let st = c.in_ok-made-in-Some.ensures.there in
-    let m = c.in_ok-made-in-Some.made in
+    ok_then c.report_at.result (ok_and _ _ c.report_at.result c.report_at.ensures.kept
+    (ok_on _ c.report_at.result c.report_at.ensures.there)) (λ m all.
     subst (λ (a : Addr). Keeps
     (λ (p : Pending). completion_at c.args.back.now.root c.args.back.now.json a c.args.back.now.life
-    m.effect.step ≡ Some p) m.effect m.pending) f.at
-    (c.in_ok-made-in-Some.ensures.kept f.server st.0 f.there st.1)
+    m.effect.step ≡ Some p) m.effect m.pending) f.at (all.0 f.server all.1.0 f.there all.1.1))
 
-pub returns-in_ok-made-in-Some-clause-core : goal.returns-in_ok-made-in-Some-clause-core
-returns-in_ok-made-in-Some-clause-core g c =
+pub returns-in-Some-clause-core : goal.returns-in-Some-clause-core
+returns-in-Some-clause-core g c =
     let f = place_found c.args.desk.now.setup c.args.back.now.server c.in-Some.place
     (sym c.in-Some.ensures.place) in
-    let st = c.in_ok-made-in-Some.ensures.there in
-    let (is, reports) = c.in_ok-made-in-Some.ensures.step f.server st.0 f.there st.1 in
+    ok_then c.report_at.result (ok_and _ _ c.report_at.result c.report_at.ensures.step
+    (ok_on _ c.report_at.result c.report_at.ensures.there)) (λ m all.
+    let st = all.1 in
+    let (is, reports) = all.0 f.server st.0 f.there st.1 in
     let w = weather_of (outside_of st.0) (outside_of is.after) in
     reports_in_core c.args.desk.now.setup c.args.back.now.life c.args.back.now.brought.now
     c.args.back.now.root c.args.back.now.json (option_copied c.args.back.now.reply) c.args.told
-    (Some (now_of f.server st.0)) c.in_ok-made-in-Some.made.effect
+    (Some (now_of f.server st.0)) m.effect
     (report_free w c.args.desk.now.setup c.args.back.now.life c.args.back.now.brought.now
     c.args.back.now.root c.args.back.now.json (option_copied c.args.back.now.reply) c.args.told
-    (Some (now_of f.server st.0)) c.in_ok-made-in-Some.made.effect reports)
+    (Some (now_of f.server st.0)) m.effect reports))

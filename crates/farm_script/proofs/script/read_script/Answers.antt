@@ -1,16 +1,22 @@
-use Rattle.std.proofs.Common.{◌≡◌, ◌<◌, length, subst, arith}
+use Rattle.std.proofs.Common.{◌≡◌, ◌<◌, length, subst, arith, List, Result}
 use Rattle.std.proofs.lemmas.Bool.Decides.{nat_tests}
-use Rattle.farm_script.specs.Script.{read_of, judge, finished, script, IsScriptFault, IsScriptAnswer}
-use Rattle.farm_script.proofs.SpelledLemmas.{read_said, read_setup, told_faulty, read_faulty}
+use Rattle.farm_script.specs.Script.{read_of, judge, finished, script}
+use Rattle.line_program.specs.Lines.{IsScriptFault, IsScriptAnswer}
+use Rattle.line_program.proofs.FirstFaultyLemmas.{line_fault, read_all}
 use Rattle.line_program.proofs.LinesLemmas.{line_step, at_end}
-use Rattle.farm_script.proofs.ScriptLemmas.{Done, line_stop}
+use Rattle.farm_script.specs.declared.setup.Setup.{Setup}
+use Rattle.farm_script.specs.declared.event.Event.{Event}
+use Rattle.line_program.specs.declared.fault.FarmFault.{FarmFault}
+use Rattle.farm_script.specs.Setups.{IsSetup}
+use Rattle.farm_script.specs.Spelled.{SpellsScript}
+use Rattle.farm_script.proofs.SpelledLemmas.{script_says, script_setup, told_faulty, read_faulty}
 use Rattle.farm_script.proofs.script.read_script.Goals as goal
 
 pub returns-in-Err : goal.returns-in-Err
 returns-in-Err c =
     let some : 0 < length c.loop-rest.rest.now = grind (arith, nat_tests) in
     let told : IsScriptFault c.in-Err.fault (script c.args.bytes.now) =
-    line_stop c.in-Err.fault c.loop-rest.number c.loop-rest.room
+    line_fault judge finished c.in-Err.fault c.loop-rest.number c.loop-rest.room
     (read_of c.loop-rest.reading) c.loop-rest.rest.now c.split_at.result.0.now c.split_at.result.1.now
     c.first_len.result (script c.args.bytes.now)
     some c.first_len.ensures.len c.split_at.ensures.front c.split_at.ensures.back c.in-Err.ensures.exact
@@ -23,7 +29,7 @@ gives c =
     let none : length c.loop-rest.rest.now ≡ 0 = grind (arith, nat_tests) in
     let e = at_end judge finished c.loop-rest.number c.loop-rest.room (read_of c.loop-rest.reading) c.loop-rest.rest.now
     (script c.args.bytes.now) none c.loop-rest.invariant.same in
-    subst (λ (done : Done). IsScriptAnswer (λ x. (x.0, x.1.items)) c.finish.result done) e c.finish.ensures
+    subst (λ (done : Result (Setup × List Event) FarmFault). IsScriptAnswer (λ x. (x.0, x.1.items)) c.finish.result done) e c.finish.ensures
 
 pub loop-rest-preserved : goal.loop-rest-preserved
 loop-rest-preserved c =
@@ -41,10 +47,12 @@ pub returns-clause-exact : goal.returns-clause-exact
 returns-clause-exact c = gives c
 
 pub returns-clause-says : goal.returns-clause-says
-returns-clause-says c = read_said (λ x. (x.0, x.1.items)) c.finish.result c.args.bytes.now (gives c)
+returns-clause-says c = read_all (λ x. SpellsScript c.args.bytes.now x.0 x.1) (λ x. (x.0, x.1.items)) c.finish.result (script c.args.bytes.now)
+    (script_says c.args.bytes.now) (gives c)
 
 pub returns-clause-faulty : goal.returns-clause-faulty
 returns-clause-faulty c = read_faulty (λ x. (x.0, x.1.items)) c.finish.result c.args.bytes.now (gives c)
 
 pub returns-clause-setup : goal.returns-clause-setup
-returns-clause-setup c = read_setup (λ x. (x.0, x.1.items)) c.finish.result c.args.bytes.now (gives c)
+returns-clause-setup c = read_all (λ x. IsSetup x.0) (λ x. (x.0, x.1.items)) c.finish.result (script c.args.bytes.now)
+    (script_setup c.args.bytes.now) (gives c)

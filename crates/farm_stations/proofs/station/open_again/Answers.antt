@@ -9,4 +9,4 @@ returns-clause-opened g c =
     (sym c.into_cache-cache.ensures.folder ∙ ap g.F.Folder.held (sym c.into_folder.ensures))
     c.requires.at.0 c.requires.at.1 c.into_cache-cache.ensures.archives c.into_cache-cache.ensures.at.1
     c.fits.ensures c.reopening_gives_the_archives.ensures c.open.ensures.held c.open.ensures.archives
-    c.open.ensures.at c.open.ensures.step c.open.ensures.steady
+    c.open.ensures.at c.open.ensures.step c.open.ensures.steady c.open.ensures.clears

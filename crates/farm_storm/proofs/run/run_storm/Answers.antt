@@ -1,12 +1,16 @@
 use Rattle.std.proofs.Common.{◌≡◌, ℕ, subst, arith}
+use Rattle.farm_script.specs.declared.event.Event.{Event}
+use Rattle.farm_run.specs.Farm.{StepsTo}
 use Rattle.farm_storm.specs.Summary.{IsStormed}
 use Rattle.farm_storm.proofs.StormLemmas.{more_run}
 use Rattle.farm_storm.proofs.run.run_storm.Goals as goal
 
 pub loop-number-preserved : goal.loop-number-preserved
 loop-number-preserved c =
-    more_run c.loop-number.number c.loop-number.farm c.in_ok-farm-2.farm c.loop-number.invariant
-    c.in_ok-farm-2.ensures.ok
+    let farm = c.loop-number.farm in
+    let new = c.in-Ok-step.farm in
+    more_run c.loop-number.number farm new c.loop-number.invariant
+    (subst (λ (e : Event). StepsTo farm e new) c.in-Ok-event_at.ensures c.in-Ok-step.ensures.ok)
 
 pub returns-clause-ok : goal.returns-clause-ok
 returns-clause-ok c =

@@ -10,4 +10,5 @@ returns-in-Ok-write_inputs g c =
       w.0,
       (w.1, c.in-Ok.ensures.low, told.1.1.0, told.1.1.1.1.1.1),
       c.new.ensures.bytes ∙ w.2,
+      c.in-Ok.ensures.spelled,
     )

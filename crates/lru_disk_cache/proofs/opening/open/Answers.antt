@@ -8,7 +8,55 @@ use Rattle.folders.proofs.CallLemmas.{left_same}
 use Rattle.folders.proofs.Exactly.{removed_twice, outside_twice}
 use Rattle.folders.proofs.Removals.{same_spared, spared_both}
 use Rattle.lru_disk_cache.proofs.Keeping.{opened_same, sorted_opened, dropped_opened}
+use Rattle.folders.specs.Changed.{SameAt, RemovedUnder}
+use Rattle.folders.specs.Held.{Became}
+use Rattle.lru_disk_cache.specs.Opened.{KeepsOpened}
+use Rattle.lru_disk_cache.proofs.opening.open.Given.{Over}
+use Rattle.lru_disk_cache.proofs.opening.open.Goals.{After-list, After-sort_out, After-drop_old}
 use Rattle.lru_disk_cache.proofs.opening.open.Goals as goal
+
+-- ---- the files behind each step, whatever it answered
+
+same : (g : Over) (c : After-list g)
+    → Became SameAt (g.F.Folder.held c.args.folder.now).files (g.F.Folder.held c.list.new.self).files
+same g c =
+    left_same Never c.list.result (g.F.Folder.held c.args.folder.now) (g.F.Folder.held c.list.new.self)
+    c.list.ensures.leaves
+
+sorted_spares : (g : Over) (c : After-sort_out g) → Became (RemovedUnder c.args.root.now)
+    (g.F.Folder.held c.args.folder.now).files (g.F.Folder.held c.sort_out.new.folder).files
+sorted_spares g c =
+    spared_both c.args.root.now (g.F.Folder.held c.args.folder.now).files
+    (g.F.Folder.held c.list.new.self).files (g.F.Folder.held c.sort_out.new.folder).files
+    (same_spared c.args.root.now (g.F.Folder.held c.args.folder.now).files
+    (g.F.Folder.held c.list.new.self).files
+    (left_same Never c.list.result (g.F.Folder.held c.args.folder.now) (g.F.Folder.held c.list.new.self)
+    c.list.ensures.leaves)) c.sort_out.ensures.spares
+
+dropped_spares : (g : Over) (c : After-drop_old g) → Became (RemovedUnder c.args.root.now)
+    (g.F.Folder.held c.args.folder.now).files (g.F.Folder.held c.sort_out.new.folder).files
+    → Became (RemovedUnder c.args.root.now) (g.F.Folder.held c.args.folder.now).files
+    (g.F.Folder.held c.drop_old.new.folder).files
+dropped_spares g c sorted =
+    spared_both c.args.root.now (g.F.Folder.held c.args.folder.now).files
+    (g.F.Folder.held c.sort_out.new.folder).files (g.F.Folder.held c.drop_old.new.folder).files sorted
+    c.drop_old.ensures.spares
+
+dropped_keeps : (g : Over) (c : After-drop_old g)
+    → Became (KeepsOpened c.args.root.now c.args.capacity) (g.F.Folder.held c.args.folder.now).files
+    (g.F.Folder.held c.drop_old.new.folder).files
+dropped_keeps g c =
+    let good_is = kept_from_empty c.args.root.now c.args.capacity c.in_ok-found.found.items c.deref.result.now
+    c.new-good.result.items c.sort_out.new.good.items c.new-good.ensures.items c.deref.ensures.value
+    c.in_ok-sort_out.ensures.list in
+    dropped_opened c.args.root.now (front c.get.result.now) c.args.capacity c.in_ok-found.found.items
+    c.deref-2.result.now (g.F.Folder.held c.args.folder.now) (g.F.Folder.held c.sort_out.new.folder)
+    (g.F.Folder.held c.drop_old.new.folder) (ap front c.get.ensures.text ∙ sym c.requires)
+    (c.deref-2.ensures.value ∙ good_is) c.in_ok-found.ensures.found
+    (sorted_opened c.args.root.now c.args.capacity (g.F.Folder.held c.args.folder.now)
+    (g.F.Folder.held c.list.new.self) (g.F.Folder.held c.sort_out.new.folder) c.in_ok-found.ensures.distinct
+    (left_same Never c.list.result (g.F.Folder.held c.args.folder.now) (g.F.Folder.held c.list.new.self)
+    c.list.ensures.leaves) c.sort_out.ensures.keeps) c.drop_old.ensures.keeps
 
 pub list_all-requires : goal.list_all-requires
 list_all-requires g c =
@@ -71,8 +119,7 @@ pub returns-clause-removed : goal.returns-clause-removed
 returns-clause-removed g c =
     removed_twice (g.F.Folder.held c.args.folder.now).files (g.F.Folder.held c.list.new.self).files
     (g.F.Folder.held c.sort_out.new.folder).files (g.F.Folder.held c.drop_old.new.folder).files
-    (left_same Never c.list.result (g.F.Folder.held c.args.folder.now)
-    (g.F.Folder.held c.list.new.self) c.list.ensures.leaves) c.in_ok-sort_out.ensures.removed
+    (same g (goal.at.returns-clause-removed g c).After-list) c.in_ok-sort_out.ensures.removed
     c.in_ok-rest.ensures.removed
 
 pub returns-clause-others : goal.returns-clause-others
@@ -80,55 +127,42 @@ returns-clause-others g c =
     outside_twice c.args.root.now (g.F.Folder.held c.args.folder.now).files
     (g.F.Folder.held c.list.new.self).files (g.F.Folder.held c.sort_out.new.folder).files
     (g.F.Folder.held c.drop_old.new.folder).files
-    (left_same Never c.list.result (g.F.Folder.held c.args.folder.now)
-    (g.F.Folder.held c.list.new.self) c.list.ensures.leaves) c.in_ok-sort_out.ensures.others
+    (same g (goal.at.returns-clause-others g c).After-list) c.in_ok-sort_out.ensures.others
     c.in_ok-rest.ensures.others
 
 pub returns-in_err-found-clause-spares : goal.returns-in_err-found-clause-spares
-returns-in_err-found-clause-spares g c = (same_spared c.args.root.now (g.F.Folder.held c.args.folder.now).files (g.F.Folder.held c.list.new.self).files
-    (left_same Never c.list.result (g.F.Folder.held c.args.folder.now) (g.F.Folder.held c.list.new.self)
-    c.list.ensures.leaves))
+returns-in_err-found-clause-spares g c =
+    same_spared c.args.root.now (g.F.Folder.held c.args.folder.now).files
+    (g.F.Folder.held c.list.new.self).files (same g (goal.at.returns-in_err-found-clause-spares g c).After-list)
 
 pub returns-in_err-sort_out-clause-spares : goal.returns-in_err-sort_out-clause-spares
-returns-in_err-sort_out-clause-spares g c = (spared_both c.args.root.now (g.F.Folder.held c.args.folder.now).files (g.F.Folder.held c.list.new.self).files (g.F.Folder.held c.sort_out.new.folder).files
-    (same_spared c.args.root.now (g.F.Folder.held c.args.folder.now).files (g.F.Folder.held c.list.new.self).files
-    (left_same Never c.list.result (g.F.Folder.held c.args.folder.now) (g.F.Folder.held c.list.new.self)
-    c.list.ensures.leaves)) c.sort_out.ensures.spares)
+returns-in_err-sort_out-clause-spares g c =
+    sorted_spares g (goal.at.returns-in_err-sort_out-clause-spares g c).After-sort_out
 
 pub returns-in_err-rest-clause-spares : goal.returns-in_err-rest-clause-spares
-returns-in_err-rest-clause-spares g c = (spared_both c.args.root.now (g.F.Folder.held c.args.folder.now).files (g.F.Folder.held c.sort_out.new.folder).files (g.F.Folder.held c.drop_old.new.folder).files
-    (spared_both c.args.root.now (g.F.Folder.held c.args.folder.now).files (g.F.Folder.held c.list.new.self).files (g.F.Folder.held c.sort_out.new.folder).files
-    (same_spared c.args.root.now (g.F.Folder.held c.args.folder.now).files (g.F.Folder.held c.list.new.self).files
-    (left_same Never c.list.result (g.F.Folder.held c.args.folder.now) (g.F.Folder.held c.list.new.self)
-    c.list.ensures.leaves)) c.sort_out.ensures.spares) c.drop_old.ensures.spares)
+returns-in_err-rest-clause-spares g c =
+    let at = goal.at.returns-in_err-rest-clause-spares g c in
+    dropped_spares g at.After-drop_old (sorted_spares g at.After-sort_out)
 
 pub returns-in_default-clause-spares : goal.returns-in_default-clause-spares
-returns-in_default-clause-spares g c = (spared_both c.args.root.now (g.F.Folder.held c.args.folder.now).files (g.F.Folder.held c.sort_out.new.folder).files (g.F.Folder.held c.drop_old.new.folder).files
-    (spared_both c.args.root.now (g.F.Folder.held c.args.folder.now).files (g.F.Folder.held c.list.new.self).files (g.F.Folder.held c.sort_out.new.folder).files
-    (same_spared c.args.root.now (g.F.Folder.held c.args.folder.now).files (g.F.Folder.held c.list.new.self).files
-    (left_same Never c.list.result (g.F.Folder.held c.args.folder.now) (g.F.Folder.held c.list.new.self)
-    c.list.ensures.leaves)) c.sort_out.ensures.spares) c.drop_old.ensures.spares)
+returns-in_default-clause-spares g c =
+    let at = goal.at.returns-in_default-clause-spares g c in
+    dropped_spares g at.After-drop_old (sorted_spares g at.After-sort_out)
 
 pub returns-in_default-list_all-clause-spares : goal.returns-in_default-list_all-clause-spares
-returns-in_default-list_all-clause-spares g c = (spared_both c.args.root.now (g.F.Folder.held c.args.folder.now).files (g.F.Folder.held c.sort_out.new.folder).files (g.F.Folder.held c.drop_old.new.folder).files
-    (spared_both c.args.root.now (g.F.Folder.held c.args.folder.now).files (g.F.Folder.held c.list.new.self).files (g.F.Folder.held c.sort_out.new.folder).files
-    (same_spared c.args.root.now (g.F.Folder.held c.args.folder.now).files (g.F.Folder.held c.list.new.self).files
-    (left_same Never c.list.result (g.F.Folder.held c.args.folder.now) (g.F.Folder.held c.list.new.self)
-    c.list.ensures.leaves)) c.sort_out.ensures.spares) c.drop_old.ensures.spares)
+returns-in_default-list_all-clause-spares g c =
+    let at = goal.at.returns-in_default-list_all-clause-spares g c in
+    dropped_spares g at.After-drop_old (sorted_spares g at.After-sort_out)
 
 pub returns-clause-spares : goal.returns-clause-spares
-returns-clause-spares g c = (spared_both c.args.root.now (g.F.Folder.held c.args.folder.now).files (g.F.Folder.held c.sort_out.new.folder).files (g.F.Folder.held c.drop_old.new.folder).files
-    (spared_both c.args.root.now (g.F.Folder.held c.args.folder.now).files (g.F.Folder.held c.list.new.self).files (g.F.Folder.held c.sort_out.new.folder).files
-    (same_spared c.args.root.now (g.F.Folder.held c.args.folder.now).files (g.F.Folder.held c.list.new.self).files
-    (left_same Never c.list.result (g.F.Folder.held c.args.folder.now) (g.F.Folder.held c.list.new.self)
-    c.list.ensures.leaves)) c.sort_out.ensures.spares) c.drop_old.ensures.spares)
+returns-clause-spares g c =
+    let at = goal.at.returns-clause-spares g c in
+    dropped_spares g at.After-drop_old (sorted_spares g at.After-sort_out)
 
 pub returns-in_err-found-clause-keeps : goal.returns-in_err-found-clause-keeps
 returns-in_err-found-clause-keeps g c =
     opened_same c.args.root.now c.args.capacity (g.F.Folder.held c.args.folder.now).files
-    (g.F.Folder.held c.list.new.self).files
-    (left_same Never c.list.result (g.F.Folder.held c.args.folder.now) (g.F.Folder.held c.list.new.self)
-    c.list.ensures.leaves)
+    (g.F.Folder.held c.list.new.self).files (same g (goal.at.returns-in_err-found-clause-keeps g c).After-list)
 
 pub returns-in_err-sort_out-clause-keeps : goal.returns-in_err-sort_out-clause-keeps
 returns-in_err-sort_out-clause-keeps g c =
@@ -139,60 +173,20 @@ returns-in_err-sort_out-clause-keeps g c =
 
 pub returns-in_err-rest-clause-keeps : goal.returns-in_err-rest-clause-keeps
 returns-in_err-rest-clause-keeps g c =
-    let same = left_same Never c.list.result (g.F.Folder.held c.args.folder.now)
-    (g.F.Folder.held c.list.new.self) c.list.ensures.leaves in
-    let good_is = kept_from_empty c.args.root.now c.args.capacity c.in_ok-found.found.items c.deref.result.now
-    c.new-good.result.items c.sort_out.new.good.items c.new-good.ensures.items c.deref.ensures.value
-    c.in_ok-sort_out.ensures.list in
-    dropped_opened c.args.root.now (front c.get.result.now) c.args.capacity c.in_ok-found.found.items
-    c.deref-2.result.now (g.F.Folder.held c.args.folder.now) (g.F.Folder.held c.sort_out.new.folder)
-    (g.F.Folder.held c.drop_old.new.folder) (ap front c.get.ensures.text ∙ sym c.requires)
-    (c.deref-2.ensures.value ∙ good_is) c.in_ok-found.ensures.found
-    (sorted_opened c.args.root.now c.args.capacity (g.F.Folder.held c.args.folder.now)
-    (g.F.Folder.held c.list.new.self) (g.F.Folder.held c.sort_out.new.folder) c.in_ok-found.ensures.distinct
-    same c.sort_out.ensures.keeps) c.drop_old.ensures.keeps
+    let at = goal.at.returns-in_err-rest-clause-keeps g c in
+    dropped_keeps g at.After-drop_old
 
 pub returns-in_default-clause-keeps : goal.returns-in_default-clause-keeps
 returns-in_default-clause-keeps g c =
-    let same = left_same Never c.list.result (g.F.Folder.held c.args.folder.now)
-    (g.F.Folder.held c.list.new.self) c.list.ensures.leaves in
-    let good_is = kept_from_empty c.args.root.now c.args.capacity c.in_ok-found.found.items c.deref.result.now
-    c.new-good.result.items c.sort_out.new.good.items c.new-good.ensures.items c.deref.ensures.value
-    c.in_ok-sort_out.ensures.list in
-    dropped_opened c.args.root.now (front c.get.result.now) c.args.capacity c.in_ok-found.found.items
-    c.deref-2.result.now (g.F.Folder.held c.args.folder.now) (g.F.Folder.held c.sort_out.new.folder)
-    (g.F.Folder.held c.drop_old.new.folder) (ap front c.get.ensures.text ∙ sym c.requires)
-    (c.deref-2.ensures.value ∙ good_is) c.in_ok-found.ensures.found
-    (sorted_opened c.args.root.now c.args.capacity (g.F.Folder.held c.args.folder.now)
-    (g.F.Folder.held c.list.new.self) (g.F.Folder.held c.sort_out.new.folder) c.in_ok-found.ensures.distinct
-    same c.sort_out.ensures.keeps) c.drop_old.ensures.keeps
+    let at = goal.at.returns-in_default-clause-keeps g c in
+    dropped_keeps g at.After-drop_old
 
 pub returns-in_default-list_all-clause-keeps : goal.returns-in_default-list_all-clause-keeps
 returns-in_default-list_all-clause-keeps g c =
-    let same = left_same Never c.list.result (g.F.Folder.held c.args.folder.now)
-    (g.F.Folder.held c.list.new.self) c.list.ensures.leaves in
-    let good_is = kept_from_empty c.args.root.now c.args.capacity c.in_ok-found.found.items c.deref.result.now
-    c.new-good.result.items c.sort_out.new.good.items c.new-good.ensures.items c.deref.ensures.value
-    c.in_ok-sort_out.ensures.list in
-    dropped_opened c.args.root.now (front c.get.result.now) c.args.capacity c.in_ok-found.found.items
-    c.deref-2.result.now (g.F.Folder.held c.args.folder.now) (g.F.Folder.held c.sort_out.new.folder)
-    (g.F.Folder.held c.drop_old.new.folder) (ap front c.get.ensures.text ∙ sym c.requires)
-    (c.deref-2.ensures.value ∙ good_is) c.in_ok-found.ensures.found
-    (sorted_opened c.args.root.now c.args.capacity (g.F.Folder.held c.args.folder.now)
-    (g.F.Folder.held c.list.new.self) (g.F.Folder.held c.sort_out.new.folder) c.in_ok-found.ensures.distinct
-    same c.sort_out.ensures.keeps) c.drop_old.ensures.keeps
+    let at = goal.at.returns-in_default-list_all-clause-keeps g c in
+    dropped_keeps g at.After-drop_old
 
 pub returns-clause-keeps : goal.returns-clause-keeps
 returns-clause-keeps g c =
-    let same = left_same Never c.list.result (g.F.Folder.held c.args.folder.now)
-    (g.F.Folder.held c.list.new.self) c.list.ensures.leaves in
-    let good_is = kept_from_empty c.args.root.now c.args.capacity c.in_ok-found.found.items c.deref.result.now
-    c.new-good.result.items c.sort_out.new.good.items c.new-good.ensures.items c.deref.ensures.value
-    c.in_ok-sort_out.ensures.list in
-    dropped_opened c.args.root.now (front c.get.result.now) c.args.capacity c.in_ok-found.found.items
-    c.deref-2.result.now (g.F.Folder.held c.args.folder.now) (g.F.Folder.held c.sort_out.new.folder)
-    (g.F.Folder.held c.drop_old.new.folder) (ap front c.get.ensures.text ∙ sym c.requires)
-    (c.deref-2.ensures.value ∙ good_is) c.in_ok-found.ensures.found
-    (sorted_opened c.args.root.now c.args.capacity (g.F.Folder.held c.args.folder.now)
-    (g.F.Folder.held c.list.new.self) (g.F.Folder.held c.sort_out.new.folder) c.in_ok-found.ensures.distinct
-    same c.sort_out.ensures.keeps) c.drop_old.ensures.keeps
+    let at = goal.at.returns-clause-keeps g c in
+    dropped_keeps g at.After-drop_old

@@ -1,22 +1,5 @@
-use Rattle.mirror_run.proofs.ProgramLemmas.{answered, statuses_of, order_of, counts_of, as_one_of}
+use Rattle.mirror_run.proofs.ProgramLemmas.{as_one_of}
 use Rattle.mirror_run.proofs.program.mirror_main.Goals as goal
 
--- what was done, reported
-told : goal.returns-clause-answered
-told g c = answered c.run_words-done.result c.report.result _ _ _ c.run_words-done.ensures.done
-    c.report.ensures.reported
-
-pub returns-clause-answered : goal.returns-clause-answered
-returns-clause-answered g c = told g c
-
-pub returns-clause-statuses : goal.returns-clause-statuses
-returns-clause-statuses g c = statuses_of c.report.result _ _ _ (told g c)
-
-pub returns-clause-order : goal.returns-clause-order
-returns-clause-order g c = order_of c.report.result _ _ _ (told g c)
-
-pub returns-clause-counts : goal.returns-clause-counts
-returns-clause-counts g c = counts_of c.report.result _ _ _ (told g c)
-
 pub returns-clause-as_one : goal.returns-clause-as_one
-returns-clause-as_one g c = as_one_of c.report.result _ _ _ (told g c)
+returns-clause-as_one g c = as_one_of c.program_main.result _ _ _ c.program_main.ensures.outcome

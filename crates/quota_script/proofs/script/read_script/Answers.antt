@@ -1,17 +1,20 @@
 use Rattle.std.proofs.Common.{◌≡◌, ◌<◌, length, subst, arith, Result}
 use Rattle.std.proofs.lemmas.Bool.Decides.{nat_tests}
 use Rattle.line_program.specs.declared.fault.FarmFault.{FarmFault}
+use Rattle.line_program.specs.Lines.{IsScriptFault, IsScriptAnswer}
+use Rattle.line_program.proofs.FirstFaultyLemmas.{line_fault, read_all}
 use Rattle.line_program.proofs.LinesLemmas.{line_step, at_end}
-use Rattle.farm_script.specs.Script.{IsScriptFault, IsScriptAnswer}
 use Rattle.quota_script.specs.Script.{Said, said_of, read_of, judge, finished, script}
-use Rattle.quota_script.proofs.SpelledLemmas.{read_said, read_once, told_faulty, read_faulty, line_stop}
+use Rattle.quota_script.specs.Place.{AreNamedOnce}
+use Rattle.quota_script.specs.Spelled.{SpellsScript}
+use Rattle.quota_script.proofs.SpelledLemmas.{script_says, script_names_once, told_faulty, read_faulty}
 use Rattle.quota_script.proofs.script.read_script.Goals as goal
 
 pub returns-in-Err : goal.returns-in-Err
 returns-in-Err c =
     let some : 0 < length c.loop-rest.rest.now = grind (arith, nat_tests) in
     let told : IsScriptFault c.in-Err.fault (script c.args.bytes.now) =
-    line_stop c.in-Err.fault c.loop-rest.number c.loop-rest.room
+    line_fault judge finished c.in-Err.fault c.loop-rest.number c.loop-rest.room
     (read_of c.loop-rest.reading) c.loop-rest.rest.now c.split_at.result.0.now c.split_at.result.1.now
     c.first_len.result (script c.args.bytes.now)
     some c.first_len.ensures.len c.split_at.ensures.front c.split_at.ensures.back c.in-Err.ensures.exact
@@ -47,10 +50,12 @@ pub returns-clause-exact : goal.returns-clause-exact
 returns-clause-exact c = gives c
 
 pub returns-clause-says : goal.returns-clause-says
-returns-clause-says c = read_said c.finish.result c.args.bytes.now (gives c)
+returns-clause-says c = read_all (SpellsScript c.args.bytes.now) said_of c.finish.result (script c.args.bytes.now)
+    (script_says c.args.bytes.now) (gives c)
 
 pub returns-clause-named_once : goal.returns-clause-named_once
-returns-clause-named_once c = read_once c.finish.result c.args.bytes.now (gives c)
+returns-clause-named_once c = read_all (λ s. AreNamedOnce s.clients) said_of c.finish.result (script c.args.bytes.now)
+    (script_names_once c.args.bytes.now) (gives c)
 
 pub returns-clause-faulty : goal.returns-clause-faulty
-returns-clause-faulty c = read_faulty c.finish.result c.args.bytes.now (gives c)
+returns-clause-faulty c = read_faulty said_of c.finish.result c.args.bytes.now (gives c)

@@ -1,12 +1,12 @@
 use Rattle.std.proofs.Common.{◌≡◌, ◌≤◌, length}
+use Rattle.line_program.specs.Lines.{lines_from}
 use Rattle.line_program.specs.Pieces.{pieces}
-use Rattle.quota_script.specs.Script.{read_of, script}
-use Rattle.quota_script.proofs.FirstFaultyLemmas.{script_from}
+use Rattle.quota_script.specs.Script.{read_of, judge, finished, script}
 use Rattle.quota_script.proofs.script.read_script.Given as goal
 
 abbrev pub invariant-loop-rest : goal.invariant-loop-rest
 invariant-loop-rest l = record {
-  same : script_from l.number l.room (read_of l.reading) (pieces l.rest) ≡ script l.fn.bytes;
+  same : lines_from judge finished l.number l.room (read_of l.reading) (pieces l.rest) ≡ script l.fn.bytes;
   within : l.number ≤ 1000001;
 }
 

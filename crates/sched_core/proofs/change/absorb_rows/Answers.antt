@@ -2,7 +2,7 @@ use Rattle.std.proofs.Common.{◌≡◌, ◌∙◌, ap, map, filter, refl}
 use Rattle.core_rules.specs.declared.entry.CoreKind.TheVariants.{Commit}
 use Rattle.core_rules.specs.Next.{row_after, row_freed, row_stays, served_by}
 use Rattle.core_rules.specs.Reservation.{frees_by}
-use Rattle.sched_core.specs.Booked.{held_view, open_view}
+use Rattle.reservations.specs.Booked.{held_view, open_view}
 use Rattle.sched_core.proofs.ChangeLemmas.{reserve_whole, commit_quiet, keep_all}
 use Rattle.sched_core.proofs.FreeLemmas.{never_freed}
 use Rattle.sched_core.proofs.UpdateLemmas.{update_whole}

@@ -3,7 +3,7 @@ use Rattle.std.specs.Prelude.{if◌then◌else◌}
 use Rattle.core_rules.specs.Log.{same_job}
 use Rattle.core_rules.specs.Standing.{is_heard}
 use Rattle.core_rules.specs.Next.{place_if}
-use Rattle.sched_core.specs.Booked.{open_view}
+use Rattle.reservations.specs.Booked.{open_view}
 use Rattle.sched_core.proofs.ChangeLemmas.{commit_quiet, status_quiet, update_seen, drain_marks}
 use Rattle.sched_core.proofs.change.change_rows.Goals as goal
 

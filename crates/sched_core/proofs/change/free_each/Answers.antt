@@ -1,8 +1,8 @@
 use Rattle.std.proofs.Common.{◌≤◌, length, refl, ap, ◌∙◌, arith, map}
 use Rattle.std.proofs.lemmas.List.{get_or_default}
-use Rattle.sched_core.specs.Own.{row_without}
-use Rattle.sched_core.specs.Booked.{held_view}
-use Rattle.sched_core.proofs.OwnRowLemmas.{drop_none}
+use Rattle.sched_core.specs.Changes.{row_without}
+use Rattle.reservations.specs.Booked.{held_view}
+use Rattle.reservations.proofs.OwnRowLemmas.{drop_none}
 use Rattle.sched_core.proofs.FreeLemmas.{without_next, without_last}
 use Rattle.sched_core.proofs.change.free_each.Goals as goal
 

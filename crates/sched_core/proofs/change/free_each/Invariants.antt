@@ -1,6 +1,6 @@
 use Rattle.std.proofs.Common.{◌≡◌, map, drop}
-use Rattle.sched_core.specs.Own.{row_without}
-use Rattle.sched_core.specs.Booked.{held_view}
+use Rattle.sched_core.specs.Changes.{row_without}
+use Rattle.reservations.specs.Booked.{held_view}
 use Rattle.sched_core.proofs.change.free_each.Given as goal
 
 abbrev pub invariant-loop-job : goal.invariant-loop-job

@@ -1,9 +1,9 @@
 use Rattle.std.proofs.Common.{refl, ◌∙◌}
 use Rattle.core_rules.specs.declared.entry.CoreKind.TheVariants.{Reserve, Commit, Drain}
 use Rattle.core_rules.specs.Reservation.{frees_by}
-use Rattle.sched_core.specs.Booked.{held_view}
+use Rattle.reservations.specs.Booked.{held_view}
 use Rattle.sched_core.proofs.FreeLemmas.{never_freed, beat_freed, status_freed}
-use Rattle.sched_core.proofs.BookingLemmas.{undo_frees, update_frees}
+use Rattle.reservations.proofs.BookingLemmas.{undo_frees, update_frees}
 use Rattle.sched_core.proofs.change.free_rows.Goals as goal
 
 pub returns-in-Reserve-clause-rows : goal.returns-in-Reserve-clause-rows

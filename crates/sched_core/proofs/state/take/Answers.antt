@@ -5,7 +5,7 @@ use Rattle.sched_core.proofs.KeyLemmas.{keys_next}
 use Rattle.core_rules.specs.Next.{job_by}
 use Rattle.sched_core.specs.Books.{rows_next, unspent_next}
 use Rattle.sched_core.specs.Registrations.{AreSoundRows}
-use Rattle.sched_core.specs.Booked.{unspent_view}
+use Rattle.reservations.specs.Booked.{unspent_view}
 use Rattle.core_rules.proofs.LegalLemmas.{legal-push}
 use Rattle.sched_core.proofs.BookedLemmas.{unspent_after}
 use Rattle.sched_core.proofs.BookLemmas.{absorbed, next_follows, reaped_apart}

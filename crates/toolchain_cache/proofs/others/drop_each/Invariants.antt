@@ -10,3 +10,4 @@ invariant-loop-key g l =
     × ((g.F.Folder.held l.cache.folder).files ≡ None)
     × (l.cache.disk ≡ record l.fn.cache.disk { entries = l.cache.disk.entries })
     × ((g.F.Folder.held l.cache.folder).faults ≡ (g.F.Folder.held l.fn.cache.folder).faults)
+    × (l.cache.spoiled ≡ l.fn.cache.spoiled)

@@ -10,7 +10,7 @@ use Rattle.folders.proofs.Became.{untold}
 use Rattle.disk_cache.specs.Names.{cache_path, temp_dir, weak_path}
 use Rattle.disk_cache.specs.Opening.{IsEmpty, ButOwn, LeftOpen, OpeningFails}
 use Rattle.disk_cache.specs.WeakMaps.{weak_map_at}
-use Rattle.disk_cache.proofs.KeptLemmas.{emptied_listed, cached_listed, loaded_listed}
+use Rattle.disk_cache.proofs.KeptLemmas.{emptied_listed, cached_listed, loaded_listed, loaded_only}
 use Rattle.disk_cache.proofs.LeftLemmas.{left_none, emptied_left, refused_left, loaded_left}
 use Rattle.disk_cache.proofs.NameLemmas.{cache_apart_temp}
 use Rattle.disk_cache.proofs.OpenLemmas.{open_archives, open_weak, open_temp, open_others, open_empty}
@@ -232,3 +232,11 @@ returns-in_default-copy_all-clause-spared g c =
     (c.in-Ok-prepare.ensures.archives (cache_path c.in-Ok.names.dir) (cache_apart_temp c.in-Ok.names.dir))
     (held c.in-Ok-new.cache.folder).files c.in-Ok-new.ensures.kept (held c.load.new.cache.folder).files
     c.load.ensures.others)
+
+pub returns-clause-cleared : goal.returns-clause-cleared
+returns-clause-cleared g c =
+    let held = g.F.Folder.held in
+    loaded_only c.in-Ok.names c.args.cache_dir.now c.get.result.now c.in-Ok-new.cache.archives
+    c.load.new.cache.archives (held c.in-Ok-new.cache.folder) (held c.load.new.cache.folder)
+    c.in-Ok.ensures.dir c.in-Ok.ensures.names c.get.ensures.text c.load.ensures.at.2
+    c.in-Ok-new.ensures.cleared c.load.ensures.others

@@ -7,6 +7,6 @@ pub returns : goal.returns
 returns g c =
     subst IsClient c.self.view_is (record {
       stands = shelf_stands c.self.inside.names c.self.inside.cache.path c.self.inside.cache.capacity
-          c.self.inside.cache.archives (g.F.Folder.held c.self.inside.cache.folder) c.self.invariant;
-      reads = c.self.invariant.reads;
+          c.self.inside.cache.archives (g.F.Folder.held c.self.inside.cache.folder) c.self.invariant.0;
+      reads = c.self.invariant.0.reads;
     })

@@ -3,5 +3,5 @@ use Rattle.farm_run.proofs.run.Farm.goes_on.Goals as goal
 
 pub returns : goal.returns
 returns g c = rw (← c.self.view_is)
-    (has_next c.self.inside.desk.setup c.self.inside.log.entries.items c.self.inside.log.kept.items
+    (has_next c.self.inside.desk.value.setup c.self.inside.log.entries.items c.self.inside.log.kept.items
     c.self.invariant.farm.kept)

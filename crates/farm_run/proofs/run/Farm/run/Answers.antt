@@ -7,8 +7,10 @@ use Rattle.farm_laws.proofs.NextLemmas.{run_lawful}
 use Rattle.farm_laws.proofs.ReliableLemmas.{run_reliable}
 use Rattle.farm_entries.specs.Weather.{calm, free}
 use Rattle.farm_run.specs.Farm.{Runs}
+use Rattle.farm_run.specs.Stops.{AreGiven}
 use Rattle.farm_run.proofs.FarmLemmas.{Runs-push, Runs-entries, Runs-is, Runs-own, Runs-calm, Runs-builds}
 use Rattle.farm_run.proofs.FarmLemmas.{Runs-back, Runs-stopped, Runs-grants, run_once, run_grants}
+use Rattle.farm_run.proofs.StayLemmas.{Runs-stay}
 use Rattle.farm_run.proofs.run.Farm.run.Goals as goal
 
 pub loop-event-preserved : goal.loop-event-preserved
@@ -18,7 +20,8 @@ loop-event-preserved g c =
     take_more c.args.events.now c.loop-event.event-index c.event-item.result c.loop-event-test.true
     ∙ ap (λ x. take c.loop-event.event-index c.args.events.now ++ x ∷ []) (sym c.event-item.is) in
     let (w, e, next, moved, is) = c.in_ok-farm.ensures.ok in
-    rw more (Runs-push _ _ _ _ _ w e c.loop-event.invariant next moved is)
+    rw more (Runs-push c.args.self (take c.loop-event.event-index c.args.events.now) c.event-item.result
+    c.loop-event.farm c.in_ok-farm.farm w e c.loop-event.invariant next moved is)
 
 -- the entries before the event that memory ran out in
 pub returns-in_err-farm-clause-err : goal.returns-in_err-farm-clause-err
@@ -32,14 +35,17 @@ returns-in_err-farm-clause-err g c =
             c.event-item.result refl c.loop-event-test.true c.event-item.is,
         (
           c.loop-event.farm.outside,
-          Runs-entries c.args.self (take c.loop-event.event-index c.args.events.now) c.loop-event.farm
-              c.in_err-farm.field-0.0.entries c.loop-event.invariant c.in_err-farm.ensures.err,
-          Runs-back c.args.self (take c.loop-event.event-index c.args.events.now) c.loop-event.farm
-              c.in_err-farm.field-0.0.entries c.event-item.result.kind
-              (map g.F.Folder.held c.in_err-farm.field-0.0.folders.items)
-              (map (builder_of g.B.BuilderIncoming.built g.B.BuilderIncoming.refusals)
-              c.in_err-farm.field-0.0.builders.items) c.loop-event.invariant c.in_err-farm.ensures.err
-              c.in_err-farm.ensures.back,
+          (
+            c.loop-event.farm.hands,
+            Runs-entries c.args.self (take c.loop-event.event-index c.args.events.now) c.loop-event.farm
+                c.in_err-farm.field-0.0.entries c.loop-event.invariant c.in_err-farm.ensures.err,
+            Runs-back c.args.self (take c.loop-event.event-index c.args.events.now) c.loop-event.farm
+                c.in_err-farm.field-0.0.entries c.event-item.result.kind
+                (map g.F.Folder.held c.in_err-farm.field-0.0.folders.items)
+                (λ hs. AreGiven (builder_of g.B.BuilderIncoming.built g.B.BuilderIncoming.refusals)
+                g.B.BuilderIncoming.answers hs c.in_err-farm.field-0.0.builders.items) c.loop-event.invariant c.in_err-farm.ensures.err
+                c.in_err-farm.ensures.back,
+          ),
         ),
       ),
     )
@@ -108,6 +114,11 @@ pub returns-clause-ok : goal.returns-clause-ok
 returns-clause-ok g c =
     subst (λ events. Runs c.args.self events c.loop-event.farm)
     (take_all c.loop-event.event-index c.args.events.now (omega (arith, c.loop-event-test.false)))
+    c.loop-event.invariant
+
+pub returns-clause-stays : goal.returns-clause-stays
+returns-clause-stays g c =
+    Runs-stay c.args.self (take c.loop-event.event-index c.args.events.now) c.loop-event.farm
     c.loop-event.invariant
 
 pub returns-clause-laws : goal.returns-clause-laws

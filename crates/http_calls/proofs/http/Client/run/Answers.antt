@@ -8,7 +8,7 @@ returns-in-Ok g c = record {
   packed = Ok c.in-Ok.ensures.0;
   packs = c.in-Ok.ensures.1;
   follows = ran_after c.args.job.now (run_of c.args.command c.args.outputs) c.in-Ok.ensures.0 c.in-Ok.call
-      (first_of c.beside.result) c.send.result c.args.self.now c.send.new.self c.in-Ok.ensures.2
+      (first_of c.beside.result) c.send.result c.args.self.now c.send.new.self c.in-Ok.ensures.2 c.in-Ok.ensures.3
       c.beside.ensures c.send.ensures;
 }
 

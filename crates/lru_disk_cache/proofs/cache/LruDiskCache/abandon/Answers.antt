@@ -9,14 +9,15 @@ use Rattle.folders.proofs.Exactly.{none_removed}
 use Rattle.lru_disk_cache.specs.Reserved.{KeepsReserved, held_size, is_pending, without_number}
 use Rattle.lru_disk_cache.specs.Adding.{entry_path, abandoned, AbandonFails}
 use Rattle.lru_disk_cache.proofs.Fills.{on_ok, counts_ok, keeps_avoided, temp_avoids, stands_kept}
-use Rattle.lru_disk_cache.proofs.Standing.{none_lost}
 use Rattle.lru_disk_cache.proofs.Stores.{closed_store}
 use Rattle.lru_disk_cache.proofs.Others.{others_at}
-use Rattle.lru_disk_cache.proofs.Reserving.{temp_found, temp_none, none_reserved, held_without, closed_ok}
+use Rattle.lru_disk_cache.proofs.Reserving.{temp_found, temp_none, held_without, closed_ok}
 use Rattle.lru_disk_cache.proofs.Reserving.{closed_fails}
 use Rattle.lru_disk_cache.specs.Store.{DiskInStep}
 use Rattle.lru_disk_cache.proofs.DiskSteps.{step_abandoned}
 use Rattle.lru_disk_cache.proofs.Insides.{disk_of}
+use Rattle.lru_disk_cache.specs.Disk.{KeepsSpoiled}
+use Rattle.lru_disk_cache.proofs.Spoiled.{at_spoiled, fresh_temp}
 use Rattle.lru_disk_cache.proofs.cache.LruDiskCache.abandon.Goals as goal
 
 pub returns-in_default-clause-fails : goal.returns-in_default-clause-fails
@@ -29,15 +30,6 @@ returns-in_default-clause-fails g c = (
         (temp_none c.args.entry c.self.inside.pending (sym c.in_default.ensures.temp)),
   ),
 )
-
-pub returns-in_default-clause-kept : goal.returns-in_default-clause-kept
-returns-in_default-clause-kept g c =
-    none_lost c.args.self.now.disk.root c.args.self.now.disk.entries (g.F.Folder.held c.args.self.now.folder)
-
-pub returns-in_default-clause-reserved : goal.returns-in_default-clause-reserved
-returns-in_default-clause-reserved g c =
-    none_reserved (without_number c.args.entry.number c.args.self.now.disk.pending)
-    (g.F.Folder.held c.args.self.now.folder).files
 
 pub invariant_of-self : goal.invariant_of-self
 invariant_of-self g c =
@@ -181,5 +173,13 @@ returns-clause-removed g c =
     (only_removed c.in-Some.temp.now (g.F.Folder.held c.self.inside.folder).files
     (g.F.Folder.held c.remove_at-answer.new.folder).files c.remove_at-answer.ensures.part)
 
-pub returns-in_default-clause-removed : goal.returns-in_default-clause-removed
-returns-in_default-clause-removed g c = none_removed (g.F.Folder.held c.args.self.now.folder).files
+pub returns-clause-stays : goal.returns-clause-stays
+returns-clause-stays g c =
+    let t = temp_found c.self.inside.root c.in-Some.temp.now c.args.entry c.self.inside.pending
+    c.self.invariant.reserved (sym c.in-Some.ensures.temp) in
+    subst (λ s. Became (KeepsSpoiled s.disk.root s.spoiled) (g.F.Folder.held s.folder).files
+    (g.F.Folder.held c.remove_at-answer.new.folder).files) c.self.view_is
+    (at_spoiled c.self.inside.root c.in-Some.temp.now c.self.inside.spoiled (g.F.Folder.held c.self.inside.folder).files
+    (g.F.Folder.held c.remove_at-answer.new.folder).files
+    (fresh_temp c.self.inside.root c.in-Some.temp.now c.args.entry.number c.self.inside.spoiled t.0 t.2)
+    c.remove_at-answer.ensures.others)

@@ -4,37 +4,18 @@ use Rattle.folders.specs.Held.{Became}
 use Rattle.lru_disk_cache.specs.Key.{is_key, temp_name}
 use Rattle.lru_disk_cache.specs.Entries.{Listed, total}
 use Rattle.lru_disk_cache.specs.Reserved.{KeepsReserved, held_size, without_number}
-use Rattle.lru_disk_cache.specs.Store.{Disk}
+use Rattle.lru_disk_cache.specs.Store.{Disk, IsStore}
 use Rattle.lru_disk_cache.specs.Adding.{HasSize}
-use Rattle.lru_disk_cache.proofs.Asides.{keeps_equal, reserved_equal}
+use Rattle.lru_disk_cache.proofs.Insides.{disk_of}
 use Rattle.lru_disk_cache.proofs.Fills.{temp_apart, temp_avoided}
 use Rattle.lru_disk_cache.proofs.Others.{others_these}
 use Rattle.lru_disk_cache.proofs.Stores.{stored_fits, closed_store, broken_store}
 use Rattle.lru_disk_cache.proofs.DiskSteps.{step_committed}
+use Rattle.lru_disk_cache.specs.Disk.{KeepsSpoiled}
+use Rattle.lru_disk_cache.proofs.Spoiled.{these_spoiled, fresh_temp, fresh_key}
+use Rattle.lru_disk_cache.proofs.cache.LruDiskCache.commit_entry.Given.{Over}
+use Rattle.lru_disk_cache.proofs.cache.LruDiskCache.commit_entry.Goals.{After-fill, After-doubt}
 use Rattle.lru_disk_cache.proofs.cache.LruDiskCache.commit_entry.Goals as goal
-
-pub returns-in-Err-admit_entry-clause-kept : goal.returns-in-Err-admit_entry-clause-kept
-returns-in-Err-admit_entry-clause-kept g c =
-    keeps_equal c.args.self.now.disk.root c.entry_size.new.self.disk.entries
-    (g.F.Folder.held c.args.self.now.folder).files (g.F.Folder.held c.entry_size.new.self.folder).files
-    c.entry_size.ensures.files
-
-pub returns-in-Err-admit_entry-clause-reserved : goal.returns-in-Err-admit_entry-clause-reserved
-returns-in-Err-admit_entry-clause-reserved g c =
-    reserved_equal (without_number c.args.entry.now.number c.args.self.now.disk.pending)
-    (g.F.Folder.held c.args.self.now.folder).files (g.F.Folder.held c.entry_size.new.self.folder).files
-    c.entry_size.ensures.files
-
-pub returns-in_default-clause-kept : goal.returns-in_default-clause-kept
-returns-in_default-clause-kept g c = keeps_equal c.args.self.now.disk.root c.entry_size.new.self.disk.entries
-    (g.F.Folder.held c.args.self.now.folder).files (g.F.Folder.held c.entry_size.new.self.folder).files
-    c.entry_size.ensures.files
-
-pub returns-in_default-clause-reserved : goal.returns-in_default-clause-reserved
-returns-in_default-clause-reserved g c =
-    reserved_equal (without_number c.args.entry.now.number c.args.self.now.disk.pending)
-    (g.F.Folder.held c.args.self.now.folder).files (g.F.Folder.held c.entry_size.new.self.folder).files
-    c.entry_size.ensures.files
 
 pub fill-requires-clause-key : goal.fill-requires-clause-key
 fill-requires-clause-key g c = ap is_key c.in-Ok-arrival_of.ensures.key.0
@@ -43,7 +24,7 @@ fill-requires-clause-key g c = ap is_key c.in-Ok-arrival_of.ensures.key.0
 pub fill-requires-clause-apart : goal.fill-requires-clause-apart
 fill-requires-clause-apart g c =
     temp_apart c.self.inside.root c.in-Ok-arrival_of.arrival.path c.in-Ok-arrival_of.arrival.key
-    c.in-Ok-arrival_of.arrival.from c.in-Ok-arrival_of.ensures.temp
+    c.in-Ok-arrival_of.arrival.from c.in-Ok-arrival_of.ensures.keyless
     (c.in-Ok-arrival_of.ensures.path ∙ ap (λ k. c.self.inside.root ++ k)
     (sym c.in-Ok-arrival_of.ensures.key.0)) (ap is_key c.in-Ok-arrival_of.ensures.key.0
     ∙ (ap is_key c.key.ensures.key ∙ c.in-Ok.ensures.key))
@@ -51,7 +32,7 @@ fill-requires-clause-apart g c =
 pub fill-requires-clause-avoids : goal.fill-requires-clause-avoids
 fill-requires-clause-avoids g c =
     temp_avoided c.self.inside.root c.in-Ok-arrival_of.arrival.from c.self.inside.table.entries
-    c.in-Ok-arrival_of.ensures.temp c.self.invariant.stands.keys
+    c.in-Ok-arrival_of.ensures.keyless c.self.invariant.stands.keys
 
 pub fill-requires-clause-written : goal.fill-requires-clause-written
 fill-requires-clause-written g c = λ files told.
@@ -60,6 +41,57 @@ fill-requires-clause-written g c = λ files told.
     ap (size_at files) (c.in-Ok-arrival_of.ensures.from
     ∙ ap (λ n. c.self.inside.root ++ temp_name n) c.number-number.ensures)
     ∙ (now files told ∙ ap Some (sym c.in-Ok-arrival_of.ensures.key.1))
+
+-- ---- behind the move, whatever it answered
+
+untouched : (g : Over) (c : After-fill g)
+    → Became (KeepsReserved (without_number c.number-number.result c.self.inside.pending))
+    (g.F.Folder.held c.self.inside.folder).files (g.F.Folder.held c.fill.new.folder).files
+untouched g c =
+    others_these c.self.inside.root c.in-Ok-arrival_of.arrival.from c.in-Ok-arrival_of.arrival.path
+    c.key.result.now c.self.inside.table.entries c.number-number.result c.self.inside.pending
+    (g.F.Folder.held c.self.inside.folder).files (g.F.Folder.held c.fill.new.folder).files
+    c.in-Ok-arrival_of.ensures.from c.in-Ok-arrival_of.ensures.number c.in-Ok-arrival_of.ensures.path
+    (ap is_key c.key.ensures.key ∙ c.in-Ok.ensures.key) c.self.invariant.stands.keys
+    c.self.invariant.reserved c.fill.ensures.untouched
+
+reserved : (g : Over) (c : After-fill g)
+    → Became (KeepsReserved (without_number c.args.entry.now.number c.args.self.now.disk.pending))
+    (g.F.Folder.held c.args.self.now.folder).files (g.F.Folder.held c.fill.new.folder).files
+reserved g c =
+    subst (λ o. Became (KeepsReserved (without_number c.args.entry.now.number c.args.self.now.disk.pending)) o
+    (g.F.Folder.held c.fill.new.folder).files) c.entry_size.ensures.files
+    (subst (λ (d : Disk). Became (KeepsReserved (without_number c.args.entry.now.number d.pending))
+    (g.F.Folder.held c.entry_size.new.self.folder).files (g.F.Folder.held c.fill.new.folder).files)
+    c.entry_size.ensures.disk
+    (subst (λ s. Became (KeepsReserved (without_number c.args.entry.now.number s.disk.pending))
+    (g.F.Folder.held s.folder).files (g.F.Folder.held c.fill.new.folder).files) c.self.view_is
+    (subst (λ n. Became (KeepsReserved (without_number n c.self.inside.pending))
+    (g.F.Folder.held c.self.inside.folder).files (g.F.Folder.held c.fill.new.folder).files)
+    c.number-number.ensures (untouched g c))))
+
+stays : (g : Over) (c : After-fill g)
+    → Became (KeepsSpoiled c.args.self.now.disk.root c.args.self.now.spoiled)
+    (g.F.Folder.held c.args.self.now.folder).files (g.F.Folder.held c.fill.new.folder).files
+stays g c =
+    subst (λ o. Became (KeepsSpoiled c.args.self.now.disk.root c.args.self.now.spoiled) o
+    (g.F.Folder.held c.fill.new.folder).files) c.entry_size.ensures.files
+    (subst (λ (d : Disk). Became (KeepsSpoiled d.root c.args.self.now.spoiled)
+    (g.F.Folder.held c.entry_size.new.self.folder).files (g.F.Folder.held c.fill.new.folder).files)
+    c.entry_size.ensures.disk
+    (subst (λ n. Became (KeepsSpoiled c.entry_size.new.self.disk.root n)
+    (g.F.Folder.held c.entry_size.new.self.folder).files (g.F.Folder.held c.fill.new.folder).files)
+    c.entry_size.ensures.unspoiled
+    (subst (λ s. Became (KeepsSpoiled s.disk.root s.spoiled) (g.F.Folder.held s.folder).files
+    (g.F.Folder.held c.fill.new.folder).files) c.self.view_is
+    (these_spoiled c.self.inside.root c.in-Ok-arrival_of.arrival.from c.in-Ok-arrival_of.arrival.path
+    c.self.inside.table.entries c.self.inside.spoiled (g.F.Folder.held c.self.inside.folder).files
+    (g.F.Folder.held c.fill.new.folder).files
+    (fresh_temp c.self.inside.root c.in-Ok-arrival_of.arrival.from c.number-number.result
+    c.self.inside.spoiled c.in-Ok-arrival_of.ensures.from c.in-Ok-arrival_of.ensures.number)
+    (fresh_key c.self.inside.root c.in-Ok-arrival_of.arrival.path c.key.result.now c.self.inside.spoiled
+    c.in-Ok-arrival_of.ensures.path (ap is_key c.key.ensures.key ∙ c.in-Ok.ensures.key))
+    c.self.invariant.stands.keys c.fill.ensures.untouched))))
 
 pub invariant_of-self : goal.invariant_of-self
 invariant_of-self g c =
@@ -86,77 +118,44 @@ invariant_of-self g c =
     closed_store c.self.inside.path c.self.inside.root c.self.inside.pending c.settle.new.self
     c.number-number.result (g.F.Folder.held c.self.inside.folder) (g.F.Folder.held c.fill.new.folder)
     c.self.inside.table c.fill.new.table c.self.invariant c.settle.ensures c.fill.ensures.stands fits
-    (others_these c.self.inside.root c.in-Ok-arrival_of.arrival.from c.in-Ok-arrival_of.arrival.path
-    c.key.result.now c.self.inside.table.entries c.number-number.result c.self.inside.pending
-    (g.F.Folder.held c.self.inside.folder).files (g.F.Folder.held c.fill.new.folder).files
-    c.in-Ok-arrival_of.ensures.from c.in-Ok-arrival_of.ensures.number c.in-Ok-arrival_of.ensures.path
-    (ap is_key c.key.ensures.key ∙ c.in-Ok.ensures.key) c.self.invariant.stands.keys
-    c.self.invariant.reserved c.fill.ensures.untouched)
+    (untouched g (goal.at.invariant_of-self g c).After-fill)
 
 pub returns-in-Ok-fill-clause-stands : goal.returns-in-Ok-fill-clause-stands
 returns-in-Ok-fill-clause-stands g c = invariant_of-self g c
 
-pub returns-in-Ok-fill-clause-reserved : goal.returns-in-Ok-fill-clause-reserved
-returns-in-Ok-fill-clause-reserved g c =
-    subst (λ o. Became (KeepsReserved (without_number c.args.entry.now.number c.args.self.now.disk.pending)) o
-    (g.F.Folder.held c.fill.new.folder).files) c.entry_size.ensures.files
-    (subst (λ (d : Disk). Became (KeepsReserved (without_number c.args.entry.now.number d.pending))
-    (g.F.Folder.held c.entry_size.new.self.folder).files (g.F.Folder.held c.fill.new.folder).files)
-    c.entry_size.ensures.disk
-    (subst (λ s. Became (KeepsReserved (without_number c.args.entry.now.number s.disk.pending))
-    (g.F.Folder.held s.folder).files (g.F.Folder.held c.fill.new.folder).files) c.self.view_is
-    (subst (λ n. Became (KeepsReserved (without_number n c.self.inside.pending))
-    (g.F.Folder.held c.self.inside.folder).files (g.F.Folder.held c.fill.new.folder).files)
-    c.number-number.ensures (others_these c.self.inside.root c.in-Ok-arrival_of.arrival.from c.in-Ok-arrival_of.arrival.path
-    c.key.result.now c.self.inside.table.entries c.number-number.result c.self.inside.pending
+-- where it failed
+broken : (g : Over) (c : After-doubt g)
+    → Became (KeepsReserved (without_number c.number-number.result c.self.inside.pending))
     (g.F.Folder.held c.self.inside.folder).files (g.F.Folder.held c.fill.new.folder).files
-    c.in-Ok-arrival_of.ensures.from c.in-Ok-arrival_of.ensures.number c.in-Ok-arrival_of.ensures.path
-    (ap is_key c.key.ensures.key ∙ c.in-Ok.ensures.key) c.self.invariant.stands.keys
-    c.self.invariant.reserved c.fill.ensures.untouched))))
+    → IsStore (g.F.Folder.held c.fill.new.folder)
+    (disk_of c.self.inside.path c.self.inside.root c.fill.new.table c.doubt.new.self)
+broken g c temps =
+    broken_store c.self.inside.path c.self.inside.root c.self.inside.pending c.doubt.new.self
+    c.number-number.result c.in-Ok-arrival_of.arrival.limit c.in-Ok-arrival_of.arrival.key
+    (g.F.Folder.held c.self.inside.folder) (g.F.Folder.held c.fill.new.folder) c.self.inside.table
+    c.fill.new.table c.self.invariant c.doubt.ensures c.in-Err-fill.ensures.err c.fill.ensures.stands
+    temps
 
 pub invariant_of-self-in-Err-fill : goal.invariant_of-self-in-Err-fill
 invariant_of-self-in-Err-fill g c =
-    broken_store c.self.inside.path c.self.inside.root c.self.inside.pending c.doubt.new.self
-    c.number-number.result c.in-Ok-arrival_of.arrival.limit c.in-Ok-arrival_of.arrival.key
-    (g.F.Folder.held c.self.inside.folder) (g.F.Folder.held c.fill.new.folder) c.self.inside.table
-    c.fill.new.table c.self.invariant c.doubt.ensures c.in-Err-fill.ensures.err c.fill.ensures.stands
-    (others_these c.self.inside.root c.in-Ok-arrival_of.arrival.from c.in-Ok-arrival_of.arrival.path
-    c.key.result.now c.self.inside.table.entries c.number-number.result c.self.inside.pending
-    (g.F.Folder.held c.self.inside.folder).files (g.F.Folder.held c.fill.new.folder).files
-    c.in-Ok-arrival_of.ensures.from c.in-Ok-arrival_of.ensures.number c.in-Ok-arrival_of.ensures.path
-    (ap is_key c.key.ensures.key ∙ c.in-Ok.ensures.key) c.self.invariant.stands.keys
-    c.self.invariant.reserved c.fill.ensures.untouched)
+    let at = goal.at.invariant_of-self-in-Err-fill g c in broken g at.After-doubt (untouched g at.After-fill)
 
 pub returns-clause-stands : goal.returns-clause-stands
 returns-clause-stands g c =
-    broken_store c.self.inside.path c.self.inside.root c.self.inside.pending c.doubt.new.self
-    c.number-number.result c.in-Ok-arrival_of.arrival.limit c.in-Ok-arrival_of.arrival.key
-    (g.F.Folder.held c.self.inside.folder) (g.F.Folder.held c.fill.new.folder) c.self.inside.table
-    c.fill.new.table c.self.invariant c.doubt.ensures c.in-Err-fill.ensures.err c.fill.ensures.stands
-    (others_these c.self.inside.root c.in-Ok-arrival_of.arrival.from c.in-Ok-arrival_of.arrival.path
-    c.key.result.now c.self.inside.table.entries c.number-number.result c.self.inside.pending
-    (g.F.Folder.held c.self.inside.folder).files (g.F.Folder.held c.fill.new.folder).files
-    c.in-Ok-arrival_of.ensures.from c.in-Ok-arrival_of.ensures.number c.in-Ok-arrival_of.ensures.path
-    (ap is_key c.key.ensures.key ∙ c.in-Ok.ensures.key) c.self.invariant.stands.keys
-    c.self.invariant.reserved c.fill.ensures.untouched)
+    let at = goal.at.returns-clause-stands g c in broken g at.After-doubt (untouched g at.After-fill)
+
+pub returns-in-Ok-fill-clause-reserved : goal.returns-in-Ok-fill-clause-reserved
+returns-in-Ok-fill-clause-reserved g c =
+    reserved g (goal.at.returns-in-Ok-fill-clause-reserved g c).After-fill
 
 pub returns-clause-reserved : goal.returns-clause-reserved
-returns-clause-reserved g c =
-    subst (λ o. Became (KeepsReserved (without_number c.args.entry.now.number c.args.self.now.disk.pending)) o
-    (g.F.Folder.held c.fill.new.folder).files) c.entry_size.ensures.files
-    (subst (λ (d : Disk). Became (KeepsReserved (without_number c.args.entry.now.number d.pending))
-    (g.F.Folder.held c.entry_size.new.self.folder).files (g.F.Folder.held c.fill.new.folder).files)
-    c.entry_size.ensures.disk
-    (subst (λ s. Became (KeepsReserved (without_number c.args.entry.now.number s.disk.pending))
-    (g.F.Folder.held s.folder).files (g.F.Folder.held c.fill.new.folder).files) c.self.view_is
-    (subst (λ n. Became (KeepsReserved (without_number n c.self.inside.pending))
-    (g.F.Folder.held c.self.inside.folder).files (g.F.Folder.held c.fill.new.folder).files)
-    c.number-number.ensures (others_these c.self.inside.root c.in-Ok-arrival_of.arrival.from c.in-Ok-arrival_of.arrival.path
-    c.key.result.now c.self.inside.table.entries c.number-number.result c.self.inside.pending
-    (g.F.Folder.held c.self.inside.folder).files (g.F.Folder.held c.fill.new.folder).files
-    c.in-Ok-arrival_of.ensures.from c.in-Ok-arrival_of.ensures.number c.in-Ok-arrival_of.ensures.path
-    (ap is_key c.key.ensures.key ∙ c.in-Ok.ensures.key) c.self.invariant.stands.keys
-    c.self.invariant.reserved c.fill.ensures.untouched))))
+returns-clause-reserved g c = reserved g (goal.at.returns-clause-reserved g c).After-fill
+
+pub returns-in-Ok-fill-clause-stays : goal.returns-in-Ok-fill-clause-stays
+returns-in-Ok-fill-clause-stays g c = stays g (goal.at.returns-in-Ok-fill-clause-stays g c).After-fill
+
+pub returns-clause-stays : goal.returns-clause-stays
+returns-clause-stays g c = stays g (goal.at.returns-clause-stays g c).After-fill
 
 pub returns-in-Ok-fill-clause-ok : goal.returns-in-Ok-fill-clause-ok
 returns-in-Ok-fill-clause-ok g c = search rules

@@ -2,144 +2,111 @@ use Rattle.std.proofs.Common.{rules, ◌+◌, ◌≤◌, sym, ap, subst, ◌∙�
 use Rattle.folders.specs.Held.{Became}
 use Rattle.lru_disk_cache.specs.Key.{names_temporary}
 use Rattle.lru_disk_cache.specs.Reserved.{KeepsReserved, held_size}
-use Rattle.lru_disk_cache.specs.Store.{Disk}
-use Rattle.lru_disk_cache.proofs.Asides.{keeps_equal, reserved_equal}
+use Rattle.lru_disk_cache.specs.Store.{Disk, IsStore}
+use Rattle.lru_disk_cache.proofs.Insides.{disk_of}
 use Rattle.lru_disk_cache.proofs.Moves.{move_failed}
 use Rattle.lru_disk_cache.proofs.Reserving.{named_reserved}
 use Rattle.lru_disk_cache.proofs.Stores.{insert_store}
 use Rattle.lru_disk_cache.proofs.DiskSteps.{step_moved}
+use Rattle.lru_disk_cache.specs.Disk.{KeepsSpoiled}
+use Rattle.lru_disk_cache.proofs.Spoiled.{these_spoiled, fresh_named, fresh_key}
+use Rattle.lru_disk_cache.proofs.cache.LruDiskCache.insert_file.Given.{Over}
+use Rattle.lru_disk_cache.proofs.cache.LruDiskCache.insert_file.Goals.{After-move_in}
 use Rattle.lru_disk_cache.proofs.cache.LruDiskCache.insert_file.Goals as goal
 
-pub returns-in-Err-clause-left : goal.returns-in-Err-clause-left
-returns-in-Err-clause-left g c = keeps_equal c.args.self.now.disk.root c.path_size.new.self.disk.entries
-    (g.F.Folder.held c.args.self.now.folder).files (g.F.Folder.held c.path_size.new.self.folder).files
-    c.path_size.ensures.files
+-- ---- behind the move, whatever it answered
 
-pub returns-in-Err-clause-reserved : goal.returns-in-Err-clause-reserved
-returns-in-Err-clause-reserved g c = reserved_equal c.args.self.now.disk.pending
-    (g.F.Folder.held c.args.self.now.folder).files (g.F.Folder.held c.path_size.new.self.folder).files
-    c.path_size.ensures.files
+untouched : (g : Over) (c : After-move_in g) → Became (KeepsReserved c.self.inside.pending)
+    (g.F.Folder.held c.self.inside.folder).files (g.F.Folder.held c.move_in.new.folder).files
+untouched g c =
+    named_reserved c.self.inside.path c.self.inside.root c.in-Ok-arrival_from.arrival.from
+    c.in-Ok-arrival_from.arrival.path c.args.key.now c.self.inside.table.entries c.self.inside.pending
+    (g.F.Folder.held c.self.inside.folder).files (g.F.Folder.held c.move_in.new.folder).files
+    c.self.invariant.root (ap names_temporary (c.in-Ok-arrival_from.ensures.from
+    ∙ c.in-Ok-of.ensures.text) ∙ c.requires.named) c.in-Ok-arrival_from.ensures.path
+    c.in-Ok-admit.ensures.key c.self.invariant.stands.keys c.self.invariant.reserved
+    c.move_in.ensures.untouched
 
-pub returns-in-Err-admit-clause-left : goal.returns-in-Err-admit-clause-left
-returns-in-Err-admit-clause-left g c = keeps_equal c.args.self.now.disk.root c.path_size.new.self.disk.entries
-    (g.F.Folder.held c.args.self.now.folder).files (g.F.Folder.held c.path_size.new.self.folder).files
-    c.path_size.ensures.files
+stands : (g : Over) (c : After-move_in g) → IsStore (g.F.Folder.held c.move_in.new.folder)
+    (disk_of c.self.inside.path c.self.inside.root c.move_in.new.table c.self.inside.pending)
+stands g c =
+    let room : c.in-Ok-arrival_from.arrival.limit + c.in-Ok-arrival_from.arrival.size + held_size
+    c.self.inside.pending ≤ c.self.inside.table.capacity =
+    omega (
+      arith,
+      c.in-Ok-arrival_from.ensures.key.1,
+      c.in-Ok-arrival_from.ensures.key.2,
+      c.room_beside-limit.ensures,
+      c.in-Ok-admit.ensures.room,
+      ap (λ s. held_size s.disk.pending) c.self.view_is,
+      ap (λ s. s.disk.capacity) c.self.view_is,
+    ) in
+    insert_store c.self.inside.path c.self.inside.root c.self.inside.pending
+    (g.F.Folder.held c.move_in.new.folder) (g.F.Folder.held c.self.inside.folder)
+    c.in-Ok-arrival_from.arrival.key c.in-Ok-arrival_from.arrival.size c.in-Ok-arrival_from.arrival.limit
+    c.self.inside.table c.move_in.new.table c.move_in.result c.self.invariant room c.move_in.ensures.ok
+    c.move_in.ensures.err c.move_in.ensures.stands (untouched g c)
 
-pub returns-in-Err-admit-clause-reserved : goal.returns-in-Err-admit-clause-reserved
-returns-in-Err-admit-clause-reserved g c = reserved_equal c.args.self.now.disk.pending
-    (g.F.Folder.held c.args.self.now.folder).files (g.F.Folder.held c.path_size.new.self.folder).files
-    c.path_size.ensures.files
+reserved : (g : Over) (c : After-move_in g) → Became (KeepsReserved c.args.self.now.disk.pending)
+    (g.F.Folder.held c.args.self.now.folder).files (g.F.Folder.held c.move_in.new.folder).files
+reserved g c =
+    subst (λ o. Became (KeepsReserved c.args.self.now.disk.pending) o
+    (g.F.Folder.held c.move_in.new.folder).files) c.path_size.ensures.files
+    (subst (λ (d : Disk). Became (KeepsReserved d.pending) (g.F.Folder.held c.path_size.new.self.folder).files
+    (g.F.Folder.held c.move_in.new.folder).files) c.path_size.ensures.disk
+    (subst (λ s. Became (KeepsReserved s.disk.pending) (g.F.Folder.held s.folder).files
+    (g.F.Folder.held c.move_in.new.folder).files) c.self.view_is (untouched g c)))
 
-pub returns-in_default-clause-left : goal.returns-in_default-clause-left
-returns-in_default-clause-left g c = keeps_equal c.args.self.now.disk.root c.path_size.new.self.disk.entries
-    (g.F.Folder.held c.args.self.now.folder).files (g.F.Folder.held c.path_size.new.self.folder).files
-    c.path_size.ensures.files
-
-pub returns-in_default-clause-reserved : goal.returns-in_default-clause-reserved
-returns-in_default-clause-reserved g c = reserved_equal c.args.self.now.disk.pending
-    (g.F.Folder.held c.args.self.now.folder).files (g.F.Folder.held c.path_size.new.self.folder).files
-    c.path_size.ensures.files
-
-pub returns-in_default-arrival_from-clause-left : goal.returns-in_default-arrival_from-clause-left
-returns-in_default-arrival_from-clause-left g c =
-    keeps_equal c.args.self.now.disk.root c.path_size.new.self.disk.entries
-    (g.F.Folder.held c.args.self.now.folder).files (g.F.Folder.held c.path_size.new.self.folder).files
-    c.path_size.ensures.files
-
-pub returns-in_default-arrival_from-clause-reserved : goal.returns-in_default-arrival_from-clause-reserved
-returns-in_default-arrival_from-clause-reserved g c = reserved_equal c.args.self.now.disk.pending
-    (g.F.Folder.held c.args.self.now.folder).files (g.F.Folder.held c.path_size.new.self.folder).files
-    c.path_size.ensures.files
+stays : (g : Over) (c : After-move_in g)
+    → Became (KeepsSpoiled c.args.self.now.disk.root c.args.self.now.spoiled)
+    (g.F.Folder.held c.args.self.now.folder).files (g.F.Folder.held c.move_in.new.folder).files
+stays g c =
+    subst (λ o. Became (KeepsSpoiled c.args.self.now.disk.root c.args.self.now.spoiled) o
+    (g.F.Folder.held c.move_in.new.folder).files) c.path_size.ensures.files
+    (subst (λ (d : Disk). Became (KeepsSpoiled d.root c.args.self.now.spoiled)
+    (g.F.Folder.held c.path_size.new.self.folder).files (g.F.Folder.held c.move_in.new.folder).files)
+    c.path_size.ensures.disk
+    (subst (λ n. Became (KeepsSpoiled c.path_size.new.self.disk.root n)
+    (g.F.Folder.held c.path_size.new.self.folder).files (g.F.Folder.held c.move_in.new.folder).files)
+    c.path_size.ensures.unspoiled
+    (subst (λ s. Became (KeepsSpoiled s.disk.root s.spoiled) (g.F.Folder.held s.folder).files
+    (g.F.Folder.held c.move_in.new.folder).files) c.self.view_is
+    (these_spoiled c.self.inside.root c.in-Ok-arrival_from.arrival.from c.in-Ok-arrival_from.arrival.path
+    c.self.inside.table.entries c.self.inside.spoiled (g.F.Folder.held c.self.inside.folder).files
+    (g.F.Folder.held c.move_in.new.folder).files
+    (fresh_named c.self.inside.path c.self.inside.root c.in-Ok-arrival_from.arrival.from
+    c.self.inside.spoiled c.self.invariant.root (ap names_temporary (c.in-Ok-arrival_from.ensures.from
+    ∙ c.in-Ok-of.ensures.text) ∙ c.requires.named))
+    (fresh_key c.self.inside.root c.in-Ok-arrival_from.arrival.path c.args.key.now c.self.inside.spoiled
+    c.in-Ok-arrival_from.ensures.path c.in-Ok-admit.ensures.key) c.self.invariant.stands.keys
+    c.move_in.ensures.untouched))))
 
 pub invariant_of-self : goal.invariant_of-self
-invariant_of-self g c =
-    let room : c.in-Ok-arrival_from.arrival.limit + c.in-Ok-arrival_from.arrival.size + held_size
-    c.self.inside.pending ≤ c.self.inside.table.capacity =
-    omega (
-      arith,
-      c.in-Ok-arrival_from.ensures.key.1,
-      c.in-Ok-arrival_from.ensures.key.2,
-      c.room_beside-limit.ensures,
-      c.in-Ok-admit.ensures.room,
-      ap (λ s. held_size s.disk.pending) c.self.view_is,
-      ap (λ s. s.disk.capacity) c.self.view_is,
-    ) in
-    insert_store c.self.inside.path c.self.inside.root c.self.inside.pending
-    (g.F.Folder.held c.move_in.new.folder) (g.F.Folder.held c.self.inside.folder)
-    c.in-Ok-arrival_from.arrival.key c.in-Ok-arrival_from.arrival.size c.in-Ok-arrival_from.arrival.limit
-    c.self.inside.table c.move_in.new.table c.move_in.result c.self.invariant room c.move_in.ensures.ok
-    c.move_in.ensures.err c.move_in.ensures.stands
-    (named_reserved c.self.inside.path c.self.inside.root c.in-Ok-arrival_from.arrival.from
-    c.in-Ok-arrival_from.arrival.path c.args.key.now c.self.inside.table.entries c.self.inside.pending
-    (g.F.Folder.held c.self.inside.folder).files (g.F.Folder.held c.move_in.new.folder).files
-    c.self.invariant.root (ap names_temporary (c.in-Ok-arrival_from.ensures.from
-    ∙ c.in-Ok-of.ensures.text) ∙ c.requires.named) c.in-Ok-arrival_from.ensures.path
-    c.in-Ok-admit.ensures.key c.self.invariant.stands.keys c.self.invariant.reserved
-    c.move_in.ensures.untouched)
+invariant_of-self g c = stands g (goal.at.invariant_of-self g c).After-move_in
 
 pub invariant_of-self-2 : goal.invariant_of-self-2
-invariant_of-self-2 g c =
-    let room : c.in-Ok-arrival_from.arrival.limit + c.in-Ok-arrival_from.arrival.size + held_size
-    c.self.inside.pending ≤ c.self.inside.table.capacity =
-    omega (
-      arith,
-      c.in-Ok-arrival_from.ensures.key.1,
-      c.in-Ok-arrival_from.ensures.key.2,
-      c.room_beside-limit.ensures,
-      c.in-Ok-admit.ensures.room,
-      ap (λ s. held_size s.disk.pending) c.self.view_is,
-      ap (λ s. s.disk.capacity) c.self.view_is,
-    ) in
-    insert_store c.self.inside.path c.self.inside.root c.self.inside.pending
-    (g.F.Folder.held c.move_in.new.folder) (g.F.Folder.held c.self.inside.folder)
-    c.in-Ok-arrival_from.arrival.key c.in-Ok-arrival_from.arrival.size c.in-Ok-arrival_from.arrival.limit
-    c.self.inside.table c.move_in.new.table c.move_in.result c.self.invariant room c.move_in.ensures.ok
-    c.move_in.ensures.err c.move_in.ensures.stands
-    (named_reserved c.self.inside.path c.self.inside.root c.in-Ok-arrival_from.arrival.from
-    c.in-Ok-arrival_from.arrival.path c.args.key.now c.self.inside.table.entries c.self.inside.pending
-    (g.F.Folder.held c.self.inside.folder).files (g.F.Folder.held c.move_in.new.folder).files
-    c.self.invariant.root (ap names_temporary (c.in-Ok-arrival_from.ensures.from
-    ∙ c.in-Ok-of.ensures.text) ∙ c.requires.named) c.in-Ok-arrival_from.ensures.path
-    c.in-Ok-admit.ensures.key c.self.invariant.stands.keys c.self.invariant.reserved
-    c.move_in.ensures.untouched)
+invariant_of-self-2 g c = stands g (goal.at.invariant_of-self-2 g c).After-move_in
 
 pub returns-in-Ok-move_in-clause-stands : goal.returns-in-Ok-move_in-clause-stands
-returns-in-Ok-move_in-clause-stands g c = invariant_of-self g c
+returns-in-Ok-move_in-clause-stands g c =
+    stands g (goal.at.returns-in-Ok-move_in-clause-stands g c).After-move_in
 
 pub returns-clause-stands : goal.returns-clause-stands
-returns-clause-stands g c = invariant_of-self-2 g c
+returns-clause-stands g c = stands g (goal.at.returns-clause-stands g c).After-move_in
 
 pub returns-in-Ok-move_in-clause-reserved : goal.returns-in-Ok-move_in-clause-reserved
 returns-in-Ok-move_in-clause-reserved g c =
-    subst (λ o. Became (KeepsReserved c.args.self.now.disk.pending) o
-    (g.F.Folder.held c.move_in.new.folder).files) c.path_size.ensures.files
-    (subst (λ (d : Disk). Became (KeepsReserved d.pending) (g.F.Folder.held c.path_size.new.self.folder).files
-    (g.F.Folder.held c.move_in.new.folder).files) c.path_size.ensures.disk
-    (subst (λ s. Became (KeepsReserved s.disk.pending) (g.F.Folder.held s.folder).files
-    (g.F.Folder.held c.move_in.new.folder).files) c.self.view_is
-    (named_reserved c.self.inside.path c.self.inside.root c.in-Ok-arrival_from.arrival.from
-    c.in-Ok-arrival_from.arrival.path c.args.key.now c.self.inside.table.entries c.self.inside.pending
-    (g.F.Folder.held c.self.inside.folder).files (g.F.Folder.held c.move_in.new.folder).files
-    c.self.invariant.root (ap names_temporary (c.in-Ok-arrival_from.ensures.from
-    ∙ c.in-Ok-of.ensures.text) ∙ c.requires.named) c.in-Ok-arrival_from.ensures.path
-    c.in-Ok-admit.ensures.key c.self.invariant.stands.keys c.self.invariant.reserved
-    c.move_in.ensures.untouched)))
+    reserved g (goal.at.returns-in-Ok-move_in-clause-reserved g c).After-move_in
 
 pub returns-clause-reserved : goal.returns-clause-reserved
-returns-clause-reserved g c =
-    subst (λ o. Became (KeepsReserved c.args.self.now.disk.pending) o
-    (g.F.Folder.held c.move_in.new.folder).files) c.path_size.ensures.files
-    (subst (λ (d : Disk). Became (KeepsReserved d.pending) (g.F.Folder.held c.path_size.new.self.folder).files
-    (g.F.Folder.held c.move_in.new.folder).files) c.path_size.ensures.disk
-    (subst (λ s. Became (KeepsReserved s.disk.pending) (g.F.Folder.held s.folder).files
-    (g.F.Folder.held c.move_in.new.folder).files) c.self.view_is
-    (named_reserved c.self.inside.path c.self.inside.root c.in-Ok-arrival_from.arrival.from
-    c.in-Ok-arrival_from.arrival.path c.args.key.now c.self.inside.table.entries c.self.inside.pending
-    (g.F.Folder.held c.self.inside.folder).files (g.F.Folder.held c.move_in.new.folder).files
-    c.self.invariant.root (ap names_temporary (c.in-Ok-arrival_from.ensures.from
-    ∙ c.in-Ok-of.ensures.text) ∙ c.requires.named) c.in-Ok-arrival_from.ensures.path
-    c.in-Ok-admit.ensures.key c.self.invariant.stands.keys c.self.invariant.reserved
-    c.move_in.ensures.untouched)))
+returns-clause-reserved g c = reserved g (goal.at.returns-clause-reserved g c).After-move_in
+
+pub returns-in-Ok-move_in-clause-stays : goal.returns-in-Ok-move_in-clause-stays
+returns-in-Ok-move_in-clause-stays g c =
+    stays g (goal.at.returns-in-Ok-move_in-clause-stays g c).After-move_in
+
+pub returns-clause-stays : goal.returns-clause-stays
+returns-clause-stays g c = stays g (goal.at.returns-clause-stays g c).After-move_in
 
 pub returns-in-Err-clause-fails : goal.returns-in-Err-clause-fails
 returns-in-Err-clause-fails g c =

@@ -1,4 +1,4 @@
-use Rattle.std.proofs.Common.{◌≡◌, ◌++◌, ◌∙◌, length, Some, Ok, sym, subst}
+use Rattle.std.proofs.Common.{◌≡◌, ◌++◌, ◌∙◌, length, Some, Ok, refl, sym, subst}
 use Rattle.folders.specs.Files.{file_at}
 use Rattle.folders.specs.Held.{Holds}
 use Rattle.lru_disk_cache.specs.Store.{inserted, insert_verdict}
@@ -7,6 +7,8 @@ use Rattle.lru_disk_cache.proofs.Moves.{with_failed, with_fails, with_ok}
 use Rattle.lru_disk_cache.proofs.Reserving.{none_reserved}
 use Rattle.lru_disk_cache.proofs.Standing.{none_lost}
 use Rattle.lru_disk_cache.proofs.Whole.{closure_whole}
+use Rattle.lru_disk_cache.proofs.Spoiled.{none_inserted}
+use Rattle.lru_disk_cache.proofs.Counted.{may_spoil}
 use Rattle.lru_disk_cache.proofs.cache.LruDiskCache.insert_with.Goals as goal
 
 pub returns-in-Ok-clause-ok : goal.returns-in-Ok-clause-ok
@@ -32,13 +34,14 @@ returns-in-Ok-clause-fails g c =
 
 pub returns-in-Err-clause-fails : goal.returns-in-Err-clause-fails
 returns-in-Err-clause-fails g c =
-    with_failed (Wrote g.W.FnOnce (λ v. v.items) c.args.with) c.args.key.now c.args.self.now.disk
-    c.in-Err.error (g.F.Folder.held c.args.self.now.folder) (sym c.is_key.ensures ∙ c.if-not-is_key.false)
-    c.in-Err.ensures.fails
+    (with_failed (Wrote g.W.FnOnce (λ v. v.items) c.args.with) c.args.key.now c.args.self.now.disk
+    c.in-Err.error c.args.self.now.spoiled (g.F.Folder.held c.args.self.now.folder)
+    (sym c.is_key.ensures ∙ c.if-not-is_key.false) c.in-Err.ensures.fails).0
 
 pub returns-in-Err-clause-left : goal.returns-in-Err-clause-left
 returns-in-Err-clause-left g c =
-    none_lost c.args.self.now.disk.root c.args.self.now.disk.entries (g.F.Folder.held c.args.self.now.folder)
+    none_lost c.args.self.now.disk.root c.args.self.now.disk.entries
+    (g.F.Folder.held c.args.self.now.folder).files
 
 pub returns-in-Err-clause-reserved : goal.returns-in-Err-clause-reserved
 returns-in-Err-clause-reserved g c = none_reserved c.args.self.now.disk.pending
@@ -51,3 +54,24 @@ returns-in-Ok-clause-whole g c =
     (g.F.Folder.held c.args.self.now.folder).files (g.F.Folder.held c.insert_bytes.new.self.folder).files
     (subst (Wrote g.W.FnOnce (λ v. v.items) c.args.with (Ok (tt {0}))) (sym c.deref.ensures.value)
     c.in-Ok.ensures.ok) c.insert_bytes.ensures.whole
+
+pub returns-in-Err-clause-stays : goal.returns-in-Err-clause-stays
+returns-in-Err-clause-stays g c =
+    none_inserted c.args.self.now.disk.root c.args.self.now.spoiled
+    (g.F.Folder.held c.args.self.now.folder).files
+
+pub returns-in-Ok-clause-spoils : goal.returns-in-Ok-clause-spoils
+returns-in-Ok-clause-spoils g c =
+    may_spoil c.args.key.now (length c.deref.result.now) c.args.self.now.disk c.insert_bytes.new.self.disk
+    (g.F.Folder.held c.args.self.now.folder) (g.F.Folder.held c.insert_bytes.new.self.folder)
+    c.args.self.now.spoiled c.insert_bytes.new.self.spoiled c.insert_bytes.result c.insert_bytes.ensures.fails
+    c.insert_bytes.ensures.spoils
+
+pub returns-in-Err-clause-spoils : goal.returns-in-Err-clause-spoils
+returns-in-Err-clause-spoils g c =
+    (with_failed (Wrote g.W.FnOnce (λ v. v.items) c.args.with) c.args.key.now c.args.self.now.disk
+    c.in-Err.error c.args.self.now.spoiled (g.F.Folder.held c.args.self.now.folder)
+    (sym c.is_key.ensures ∙ c.if-not-is_key.false) c.in-Err.ensures.fails).1
+
+pub returns-then-not-is_key-clause-spoils : goal.returns-then-not-is_key-clause-spoils
+returns-then-not-is_key-clause-spoils g c = (refl, refl)

@@ -10,59 +10,109 @@ use Rattle.lru_disk_cache.proofs.DiskSteps.{step_prepared}
 use Rattle.folders.specs.Changed.{RemovedOrSame}
 use Rattle.lru_disk_cache.specs.Disk.{IsNoTemp}
 use Rattle.lru_disk_cache.proofs.Spared.{but_temps}
+use Rattle.lru_disk_cache.specs.Disk.{KeepsSpoiled}
+use Rattle.lru_disk_cache.proofs.Spoiled.{these_spoiled, fresh_temp}
+use Rattle.lru_disk_cache.proofs.cache.LruDiskCache.prepare_add.Given.{Over}
+use Rattle.lru_disk_cache.proofs.cache.LruDiskCache.prepare_add.Goals.{After-announce}
 use Rattle.lru_disk_cache.proofs.cache.LruDiskCache.prepare_add.Goals as goal
 
-pub invariant_of-self : goal.invariant_of-self
-invariant_of-self g c = (announced_store c.self.inside.path c.self.inside.root c.self.inside.pending
-    (g.F.Folder.held c.announce.new.folder) (g.F.Folder.held c.self.inside.folder) c.self.inside.table
-    c.announce.new.table c.self.invariant c.announce.ensures.capacity c.announce.ensures.room.0
-    c.announce.ensures.stands
-    (temp_reserved c.self.inside.root c.in-Ok-arrival_of.arrival.from c.self.inside.table.entries
+-- ---- behind the announcement, whatever it answered
+
+untouched : (g : Over) (c : After-announce g) → Became (KeepsReserved c.self.inside.pending)
+    (g.F.Folder.held c.self.inside.folder).files (g.F.Folder.held c.announce.new.folder).files
+untouched g c =
+    temp_reserved c.self.inside.root c.in-Ok-arrival_of.arrival.from c.self.inside.table.entries
     c.least_free-number.result c.self.inside.pending (g.F.Folder.held c.self.inside.folder).files
     (g.F.Folder.held c.announce.new.folder).files c.in-Ok-arrival_of.ensures.from
     c.in-Ok-arrival_of.ensures.number c.least_free-number.ensures.free c.self.invariant.stands.keys
-    c.self.invariant.reserved c.announce.ensures.untouched))
+    c.self.invariant.reserved c.announce.ensures.untouched
+
+stands : (g : Over) (c : After-announce g) → IsStore (g.F.Folder.held c.announce.new.folder)
+    (disk_of c.self.inside.path c.self.inside.root c.self.inside.pending c.announce.new.table)
+stands g c =
+    announced_store c.self.inside.path c.self.inside.root c.self.inside.pending
+    (g.F.Folder.held c.announce.new.folder) (g.F.Folder.held c.self.inside.folder) c.self.inside.table
+    c.announce.new.table c.self.invariant c.announce.ensures.capacity c.announce.ensures.room.0
+    c.announce.ensures.stands (untouched g c)
+
+reserved : (g : Over) (c : After-announce g) → Became (KeepsReserved c.args.self.now.disk.pending)
+    (g.F.Folder.held c.args.self.now.folder).files (g.F.Folder.held c.announce.new.folder).files
+reserved g c =
+    subst (λ s. Became (KeepsReserved s.disk.pending) (g.F.Folder.held s.folder).files
+    (g.F.Folder.held c.announce.new.folder).files) c.self.view_is (untouched g c)
+
+removed : (g : Over) (c : After-announce g)
+    → Became (RemovedOrSame (IsNoTemp c.args.self.now.disk.root))
+    (g.F.Folder.held c.args.self.now.folder).files (g.F.Folder.held c.announce.new.folder).files
+removed g c =
+    subst (λ s. Became (RemovedOrSame (IsNoTemp s.disk.root)) (g.F.Folder.held s.folder).files
+    (g.F.Folder.held c.announce.new.folder).files) c.self.view_is
+    (but_temps c.self.inside.root c.in-Ok-arrival_of.arrival.from
+    (g.F.Folder.held c.self.inside.folder).files (g.F.Folder.held c.announce.new.folder).files
+    c.in-Ok-arrival_of.ensures.temp c.announce.ensures.removed)
+
+stays : (g : Over) (c : After-announce g)
+    → Became (KeepsSpoiled c.args.self.now.disk.root c.args.self.now.spoiled)
+    (g.F.Folder.held c.args.self.now.folder).files (g.F.Folder.held c.announce.new.folder).files
+stays g c =
+    let fresh = fresh_temp c.self.inside.root c.in-Ok-arrival_of.arrival.from c.least_free-number.result
+    c.self.inside.spoiled c.in-Ok-arrival_of.ensures.from c.in-Ok-arrival_of.ensures.number in
+    subst (λ s. Became (KeepsSpoiled s.disk.root s.spoiled) (g.F.Folder.held s.folder).files
+    (g.F.Folder.held c.announce.new.folder).files) c.self.view_is
+    (these_spoiled c.self.inside.root c.in-Ok-arrival_of.arrival.from c.in-Ok-arrival_of.arrival.from
+    c.self.inside.table.entries c.self.inside.spoiled (g.F.Folder.held c.self.inside.folder).files
+    (g.F.Folder.held c.announce.new.folder).files fresh fresh c.self.invariant.stands.keys
+    c.announce.ensures.untouched)
+
+pub invariant_of-self : goal.invariant_of-self
+invariant_of-self g c = stands g (goal.at.invariant_of-self g c).After-announce
 
 pub returns-in-Err-announce-clause-stands : goal.returns-in-Err-announce-clause-stands
-returns-in-Err-announce-clause-stands g c = invariant_of-self g c
+returns-in-Err-announce-clause-stands g c =
+    stands g (goal.at.returns-in-Err-announce-clause-stands g c).After-announce
 
 pub returns-in-Err-announce-clause-reserved : goal.returns-in-Err-announce-clause-reserved
 returns-in-Err-announce-clause-reserved g c =
-    subst (λ s. Became (KeepsReserved s.disk.pending) (g.F.Folder.held s.folder).files
-    (g.F.Folder.held c.announce.new.folder).files) c.self.view_is
-    (temp_reserved c.self.inside.root c.in-Ok-arrival_of.arrival.from c.self.inside.table.entries
-    c.least_free-number.result c.self.inside.pending (g.F.Folder.held c.self.inside.folder).files
-    (g.F.Folder.held c.announce.new.folder).files c.in-Ok-arrival_of.ensures.from
-    c.in-Ok-arrival_of.ensures.number c.least_free-number.ensures.free c.self.invariant.stands.keys
-    c.self.invariant.reserved c.announce.ensures.untouched)
+    reserved g (goal.at.returns-in-Err-announce-clause-reserved g c).After-announce
+
+pub returns-in_default-push-clause-reserved : goal.returns-in_default-push-clause-reserved
+returns-in_default-push-clause-reserved g c =
+    reserved g (goal.at.returns-in_default-push-clause-reserved g c).After-announce
+
+pub returns-clause-reserved : goal.returns-clause-reserved
+returns-clause-reserved g c = reserved g (goal.at.returns-clause-reserved g c).After-announce
+
+pub returns-in-Err-announce-clause-removed : goal.returns-in-Err-announce-clause-removed
+returns-in-Err-announce-clause-removed g c =
+    removed g (goal.at.returns-in-Err-announce-clause-removed g c).After-announce
+
+pub returns-in_default-push-clause-removed : goal.returns-in_default-push-clause-removed
+returns-in_default-push-clause-removed g c =
+    removed g (goal.at.returns-in_default-push-clause-removed g c).After-announce
+
+pub returns-clause-removed : goal.returns-clause-removed
+returns-clause-removed g c = removed g (goal.at.returns-clause-removed g c).After-announce
+
+pub returns-in-Err-announce-clause-stays : goal.returns-in-Err-announce-clause-stays
+returns-in-Err-announce-clause-stays g c =
+    stays g (goal.at.returns-in-Err-announce-clause-stays g c).After-announce
+
+pub returns-in_default-push-clause-stays : goal.returns-in_default-push-clause-stays
+returns-in_default-push-clause-stays g c =
+    stays g (goal.at.returns-in_default-push-clause-stays g c).After-announce
+
+pub returns-clause-stays : goal.returns-clause-stays
+returns-clause-stays g c = stays g (goal.at.returns-clause-stays g c).After-announce
 
 pub invariant_of-self-in_default-push : goal.invariant_of-self-in_default-push
 invariant_of-self-in_default-push g c =
     subst (λ ps. IsStore (g.F.Folder.held c.announce.new.folder)
     (disk_of c.self.inside.path c.self.inside.root ps c.announce.new.table))
     (sym c.in_default-push.ensures.err)
-    (announced_store c.self.inside.path c.self.inside.root c.self.inside.pending
-    (g.F.Folder.held c.announce.new.folder) (g.F.Folder.held c.self.inside.folder) c.self.inside.table
-    c.announce.new.table c.self.invariant c.announce.ensures.capacity c.announce.ensures.room.0
-    c.announce.ensures.stands
-    (temp_reserved c.self.inside.root c.in-Ok-arrival_of.arrival.from c.self.inside.table.entries
-    c.least_free-number.result c.self.inside.pending (g.F.Folder.held c.self.inside.folder).files
-    (g.F.Folder.held c.announce.new.folder).files c.in-Ok-arrival_of.ensures.from
-    c.in-Ok-arrival_of.ensures.number c.least_free-number.ensures.free c.self.invariant.stands.keys
-    c.self.invariant.reserved c.announce.ensures.untouched))
+    (stands g (goal.at.invariant_of-self-in_default-push g c).After-announce)
 
 pub returns-in_default-push-clause-stands : goal.returns-in_default-push-clause-stands
 returns-in_default-push-clause-stands g c = invariant_of-self-in_default-push g c
-
-pub returns-in_default-push-clause-reserved : goal.returns-in_default-push-clause-reserved
-returns-in_default-push-clause-reserved g c =
-    subst (λ s. Became (KeepsReserved s.disk.pending) (g.F.Folder.held s.folder).files
-    (g.F.Folder.held c.announce.new.folder).files) c.self.view_is
-    (temp_reserved c.self.inside.root c.in-Ok-arrival_of.arrival.from c.self.inside.table.entries
-    c.least_free-number.result c.self.inside.pending (g.F.Folder.held c.self.inside.folder).files
-    (g.F.Folder.held c.announce.new.folder).files c.in-Ok-arrival_of.ensures.from
-    c.in-Ok-arrival_of.ensures.number c.least_free-number.ensures.free c.self.invariant.stands.keys
-    c.self.invariant.reserved c.announce.ensures.untouched)
 
 pub invariant_of-self-2 : goal.invariant_of-self-2
 invariant_of-self-2 g c =
@@ -88,30 +138,12 @@ invariant_of-self-2 g c =
       sure = true;
     })
     (g.F.Folder.held c.announce.new.folder) c.announce.new.table
-    (announced_store c.self.inside.path c.self.inside.root c.self.inside.pending
-    (g.F.Folder.held c.announce.new.folder) (g.F.Folder.held c.self.inside.folder) c.self.inside.table
-    c.announce.new.table c.self.invariant c.announce.ensures.capacity c.announce.ensures.room.0
-    c.announce.ensures.stands
-    (temp_reserved c.self.inside.root c.in-Ok-arrival_of.arrival.from c.self.inside.table.entries
-    c.least_free-number.result c.self.inside.pending (g.F.Folder.held c.self.inside.folder).files
-    (g.F.Folder.held c.announce.new.folder).files c.in-Ok-arrival_of.ensures.from
-    c.in-Ok-arrival_of.ensures.number c.least_free-number.ensures.free c.self.invariant.stands.keys
-    c.self.invariant.reserved c.announce.ensures.untouched)) c.in-Ok-push.ensures.ok room
+    (stands g (goal.at.invariant_of-self-2 g c).After-announce) c.in-Ok-push.ensures.ok room
     (ap is_key c.in-Ok-arrival_of.ensures.key.0 ∙ c.in-Ok.ensures.key) c.in-Ok-arrival_of.ensures.number
     c.in-Ok-arrival_of.ensures.from c.least_free-number.ensures.free c.in-Ok-announce.ensures.there
 
 pub returns-clause-stands : goal.returns-clause-stands
 returns-clause-stands g c = invariant_of-self-2 g c
-
-pub returns-clause-reserved : goal.returns-clause-reserved
-returns-clause-reserved g c =
-    subst (λ s. Became (KeepsReserved s.disk.pending) (g.F.Folder.held s.folder).files
-    (g.F.Folder.held c.announce.new.folder).files) c.self.view_is
-    (temp_reserved c.self.inside.root c.in-Ok-arrival_of.arrival.from c.self.inside.table.entries
-    c.least_free-number.result c.self.inside.pending (g.F.Folder.held c.self.inside.folder).files
-    (g.F.Folder.held c.announce.new.folder).files c.in-Ok-arrival_of.ensures.from
-    c.in-Ok-arrival_of.ensures.number c.least_free-number.ensures.free c.self.invariant.stands.keys
-    c.self.invariant.reserved c.announce.ensures.untouched)
 
 pub returns-clause-ok : goal.returns-clause-ok
 returns-clause-ok g c = search rules
@@ -129,27 +161,3 @@ returns-clause-in_step g c =
     c.in-Ok-arrival_of.ensures.number (ap (λ e. e.number) c.new.ensures)
     (returns-clause-entry g c).1 c.shown.ensures.distinct (returns-clause-ok g c)
     (returns-clause-exact g c)
-
-pub returns-in-Err-announce-clause-removed : goal.returns-in-Err-announce-clause-removed
-returns-in-Err-announce-clause-removed g c =
-    subst (λ s. Became (RemovedOrSame (IsNoTemp s.disk.root)) (g.F.Folder.held s.folder).files
-    (g.F.Folder.held c.announce.new.folder).files) c.self.view_is
-    (but_temps c.self.inside.root c.in-Ok-arrival_of.arrival.from
-    (g.F.Folder.held c.self.inside.folder).files (g.F.Folder.held c.announce.new.folder).files
-    c.in-Ok-arrival_of.ensures.temp c.announce.ensures.removed)
-
-pub returns-in_default-push-clause-removed : goal.returns-in_default-push-clause-removed
-returns-in_default-push-clause-removed g c =
-    subst (λ s. Became (RemovedOrSame (IsNoTemp s.disk.root)) (g.F.Folder.held s.folder).files
-    (g.F.Folder.held c.announce.new.folder).files) c.self.view_is
-    (but_temps c.self.inside.root c.in-Ok-arrival_of.arrival.from
-    (g.F.Folder.held c.self.inside.folder).files (g.F.Folder.held c.announce.new.folder).files
-    c.in-Ok-arrival_of.ensures.temp c.announce.ensures.removed)
-
-pub returns-clause-removed : goal.returns-clause-removed
-returns-clause-removed g c =
-    subst (λ s. Became (RemovedOrSame (IsNoTemp s.disk.root)) (g.F.Folder.held s.folder).files
-    (g.F.Folder.held c.announce.new.folder).files) c.self.view_is
-    (but_temps c.self.inside.root c.in-Ok-arrival_of.arrival.from
-    (g.F.Folder.held c.self.inside.folder).files (g.F.Folder.held c.announce.new.folder).files
-    c.in-Ok-arrival_of.ensures.temp c.announce.ensures.removed)

@@ -6,12 +6,13 @@ use Rattle.lru_disk_cache.specs.Disk.{Keeps}
 use Rattle.lru_disk_cache.specs.Reserved.{KeepsReserved, is_pending, without_number}
 use Rattle.lru_disk_cache.specs.Adding.{entry_path, WriteFails}
 use Rattle.lru_disk_cache.proofs.Fills.{on_ok, keeps_avoided, temp_avoids}
-use Rattle.lru_disk_cache.proofs.Standing.{none_lost}
-use Rattle.lru_disk_cache.proofs.Reserving.{temp_found, temp_none, write_fails, none_reserved, added_store}
+use Rattle.lru_disk_cache.proofs.Reserving.{temp_found, temp_none, write_fails, added_store}
 use Rattle.lru_disk_cache.proofs.Others.{others_at}
 use Rattle.lru_disk_cache.specs.Store.{DiskInStep}
 use Rattle.lru_disk_cache.proofs.DiskSteps.{step_appended}
 use Rattle.lru_disk_cache.proofs.Insides.{disk_of}
+use Rattle.lru_disk_cache.specs.Disk.{KeepsSpoiled}
+use Rattle.lru_disk_cache.proofs.Spoiled.{at_spoiled, fresh_temp}
 use Rattle.lru_disk_cache.proofs.cache.LruDiskCache.write_entry.Goals as goal
 
 pub returns-in_default-clause-fails : goal.returns-in_default-clause-fails
@@ -21,15 +22,6 @@ returns-in_default-clause-fails g c = (
   subst (λ s. is_pending c.args.entry.now s.disk.pending ≡ false) c.self.view_is
       (temp_none c.args.entry.now c.self.inside.pending (sym c.in_default.ensures.temp)),
 )
-
-pub returns-in_default-clause-kept : goal.returns-in_default-clause-kept
-returns-in_default-clause-kept g c =
-    none_lost c.args.self.now.disk.root c.args.self.now.disk.entries (g.F.Folder.held c.args.self.now.folder)
-
-pub returns-in_default-clause-reserved : goal.returns-in_default-clause-reserved
-returns-in_default-clause-reserved g c =
-    none_reserved (without_number c.args.entry.now.number c.args.self.now.disk.pending)
-    (g.F.Folder.held c.args.self.now.folder).files
 
 pub invariant_of-self : goal.invariant_of-self
 invariant_of-self g c =
@@ -137,3 +129,14 @@ returns-clause-in_step g c =
     (disk_of c.self.inside.path c.self.inside.root c.self.inside.table c.self.inside.pending)
     (g.F.Folder.held c.self.inside.folder) (g.F.Folder.held c.add_to.new.folder)
     c.in-Some.temp.now c.args.bytes.now c.args.entry.now.number t.0 t.2 c.add_to.ensures.ok)
+
+pub returns-clause-stays : goal.returns-clause-stays
+returns-clause-stays g c =
+    let t = temp_found c.self.inside.root c.in-Some.temp.now c.args.entry.now c.self.inside.pending
+    c.self.invariant.reserved (sym c.in-Some.ensures.temp) in
+    subst (λ s. Became (KeepsSpoiled s.disk.root s.spoiled) (g.F.Folder.held s.folder).files
+    (g.F.Folder.held c.add_to.new.folder).files) c.self.view_is
+    (at_spoiled c.self.inside.root c.in-Some.temp.now c.self.inside.spoiled (g.F.Folder.held c.self.inside.folder).files
+    (g.F.Folder.held c.add_to.new.folder).files
+    (fresh_temp c.self.inside.root c.in-Some.temp.now c.args.entry.now.number c.self.inside.spoiled t.0 t.2)
+    c.add_to.ensures.others)

@@ -1,9 +1,9 @@
 use Rattle.std.proofs.Common.{Some, ap, ◌∙◌, sym}
 use Rattle.std.specs.Option.{option_map}
-use Rattle.quota.specs.Kept.{quota_of}
 use Rattle.quota.specs.Quota.{held_at}
 use Rattle.quota.proofs.QuotaLemmas.{held_is, within_seen, owned_seen}
 use Rattle.quota.proofs.state.QuotaState.held.Goals as goal
+use Rattle.quota.proofs.KeptWords.{quota_of}
 
 pub returns-in-Some-clause-held : goal.returns-in-Some-clause-held
 returns-in-Some-clause-held g c =

@@ -1,4 +1,4 @@
-use Rattle.std.proofs.Common.{length, ap, sym, subst}
+use Rattle.std.proofs.Common.{length, ap, sym, subst, ◌∙◌}
 use Rattle.core_rules.specs.declared.entry.CoreEntry.{CoreEntry}
 use Rattle.core_rules.specs.declared.entry.CoreKind.TheVariants.{Reserve}
 use Rattle.core_rules.specs.Laws.{IsRule}
@@ -6,13 +6,18 @@ use Rattle.core_rules.specs.declared.call.Call.TheVariants as call
 use Rattle.core_rules.proofs.LegalLemmas.{core_of}
 use Rattle.sched_core.proofs.BookLemmas.{log_room-one}
 use Rattle.core_rules.proofs.StateLemmas.{reserved_row}
-use Rattle.std.proofs.Common.{◌≡◌, ◌≤◌, ◌+◌, ◌*◌, ◌^◌, refl, arith}
-use Rattle.core_rules.specs.Reservation.{bookings}
+use Rattle.std.proofs.Common.{◌≤◌, ◌+◌, ◌*◌, ◌^◌, refl, arith}
 use Rattle.sched_core.specs.Most.{most_standing}
 use Rattle.sched_core.specs.Registrations.{forgiven_in, decide_looks}
 use Rattle.sched_core.proofs.LookLemmas.{decided_looks, reserve_bound, twice_power}
 use Rattle.sched_core.proofs.MostLemmas.{still_state}
 use Rattle.sched_core.proofs.state.SchedState.enter_reserve.Goals as goal
+
+pub returns-in_err-reserved-clause-looks : goal.returns-in_err-reserved-clause-looks
+returns-in_err-reserved-clause-looks g c =
+    let s = c.self.inside in
+    rw (← c.self.view_is) (decided_looks s.start s.journal.log.items s.journal.books _ _ _ c.args.now _ _ _ _
+    c.self.invariant c.from.ensures (c.from-2.ensures ∙ c.made.ensures) c.reserved.ensures.looks)
 
 pub made_next-requires-clause-stands : goal.made_next-requires-clause-stands
 made_next-requires-clause-stands g c κs within =
@@ -33,6 +38,12 @@ take-requires-clause-rule g c κs within =
     subst (λ l. IsRule (core_of s.start l) step) (sym c.in_ok-make_job_room.ensures.log)
     (call.Reserve c.args.now, tt, ap (λ r. record { now = c.args.now; kind = Reserve r }) reserved)
 
+pub returns-in_err-make_job_room-clause-looks : goal.returns-in_err-make_job_room-clause-looks
+returns-in_err-make_job_room-clause-looks g c =
+    let s = c.self.inside in
+    rw (← c.self.view_is) (decided_looks s.start s.journal.log.items s.journal.books _ _ _ c.args.now _ _ _ _
+    c.self.invariant c.from.ensures (c.from-2.ensures ∙ c.made.ensures) c.reserved.ensures.looks)
+
 pub take-requires-clause-log_room : goal.take-requires-clause-log_room
 take-requires-clause-log_room g c κs within = rw c.in_ok-make_job_room.ensures.lists
     (log_room-one c.self.inside.journal.books.lists
@@ -51,32 +62,11 @@ take-requires-clause-state g c κs within =
     j.log.len j.log.capacity new.log.len new.log.capacity c.self.invariant roomy.lists
     refl roomy.log roomy.log_room roomy.first (omega (arith, top)) (omega (arith, places))
 
-pub returns-in_err-reserved-clause-looks : goal.returns-in_err-reserved-clause-looks
-returns-in_err-reserved-clause-looks g c =
-    let s = c.self.inside in
-    let given : c.from.result + c.from-2.result ≡ s.start.count + length (bookings s.journal.log.items) =
-    rw (c.from.ensures, c.from-2.ensures, c.made.ensures, c.self.invariant.books.made) refl in
-    rw (← c.self.view_is) (decided_looks s.start s.journal.log.items s.journal.books.lists.rows
-    s.journal.books.places c.args.now (c.from.result + c.from-2.result) c.args.steps.now c.reserved.new.steps
-    c.self.invariant.books.rows given c.self.invariant.places c.reserved.ensures.looks)
-
-pub returns-in_err-make_job_room-clause-looks : goal.returns-in_err-make_job_room-clause-looks
-returns-in_err-make_job_room-clause-looks g c =
-    let s = c.self.inside in
-    let given : c.from.result + c.from-2.result ≡ s.start.count + length (bookings s.journal.log.items) =
-    rw (c.from.ensures, c.from-2.ensures, c.made.ensures, c.self.invariant.books.made) refl in
-    rw (← c.self.view_is) (decided_looks s.start s.journal.log.items s.journal.books.lists.rows
-    s.journal.books.places c.args.now (c.from.result + c.from-2.result) c.args.steps.now c.reserved.new.steps
-    c.self.invariant.books.rows given c.self.invariant.places c.reserved.ensures.looks)
-
 pub returns-in_err-made-clause-looks : goal.returns-in_err-made-clause-looks
 returns-in_err-made-clause-looks g c =
     let s = c.self.inside in
-    let given : c.from.result + c.from-2.result ≡ s.start.count + length (bookings s.journal.log.items) =
-    rw (c.from.ensures, c.from-2.ensures, c.made.ensures, c.self.invariant.books.made) refl in
-    rw (← c.self.view_is) (decided_looks s.start s.journal.log.items s.journal.books.lists.rows
-    s.journal.books.places c.args.now (c.from.result + c.from-2.result) c.args.steps.now c.reserved.new.steps
-    c.self.invariant.books.rows given c.self.invariant.places c.reserved.ensures.looks)
+    rw (← c.self.view_is) (decided_looks s.start s.journal.log.items s.journal.books _ _ _ c.args.now _ _ _ _
+    c.self.invariant c.from.ensures (c.from-2.ensures ∙ c.made.ensures) c.reserved.ensures.looks)
 
 pub returns-clause-looks : goal.returns-clause-looks
 returns-clause-looks g c = rw (← c.self.view_is) (λ h fits.

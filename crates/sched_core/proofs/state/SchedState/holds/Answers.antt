@@ -1,5 +1,5 @@
 use Rattle.std.proofs.Common.{◌∙◌}
-use Rattle.sched_core.specs.Booked.{held_view}
+use Rattle.reservations.specs.Booked.{held_view}
 use Rattle.core_rules.proofs.StateLemmas.{held_among}
 use Rattle.sched_core.proofs.state.SchedState.holds.Goals as goal
 

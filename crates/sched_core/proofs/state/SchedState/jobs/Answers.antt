@@ -1,4 +1,4 @@
-use Rattle.sched_core.specs.Booked.{jobs_by_id}
+use Rattle.reservations.specs.Booked.{jobs_by_id}
 use Rattle.core_rules.proofs.StateLemmas.{jobs_all, jobs_are}
 use Rattle.sched_core.proofs.BookLemmas.{by_id_held, by_id_addressed}
 use Rattle.sched_core.proofs.state.SchedState.jobs.Goals as goal

@@ -2,7 +2,7 @@ use Rattle.std.proofs.Common.{◌≡◌, true, ap, ◌∙◌, sym, subst}
 use Rattle.core_rules.specs.Rows.{servers_of}
 use Rattle.core_rules.specs.Reservation.{unspent}
 use Rattle.core_rules.specs.Rule.{noted_over, is_among}
-use Rattle.sched_core.specs.Booked.{unspent_view}
+use Rattle.reservations.specs.Booked.{unspent_view}
 use Rattle.sched_core.proofs.BookLemmas.{unspent_addressed}
 use Rattle.core_rules.proofs.StateLemmas.{spent_among, spent_address}
 use Rattle.sched_core.proofs.state.SchedState.noted.Goals as goal

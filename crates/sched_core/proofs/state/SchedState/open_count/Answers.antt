@@ -2,7 +2,7 @@ use Rattle.std.proofs.Common.{◌∙◌}
 use Rattle.std.proofs.lemmas.List.{length-map}
 use Rattle.core_rules.specs.Job.{open_jobs}
 use Rattle.core_rules.specs.Rows.{open_of, open_rows}
-use Rattle.sched_core.specs.Booked.{open_view}
+use Rattle.reservations.specs.Booked.{open_view}
 use Rattle.sched_core.proofs.OpenLemmas.{reorder-length}
 use Rattle.sched_core.proofs.state.SchedState.open_count.Goals as goal
 

@@ -1,5 +1,5 @@
 use Rattle.std.proofs.Common.{◌∙◌}
-use Rattle.sched_core.specs.Booked.{unspent_view}
+use Rattle.reservations.specs.Booked.{unspent_view}
 use Rattle.core_rules.proofs.StateLemmas.{spent_among}
 use Rattle.sched_core.proofs.state.SchedState.owns.Goals as goal
 

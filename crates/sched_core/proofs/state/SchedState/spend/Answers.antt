@@ -1,9 +1,9 @@
 use Rattle.std.proofs.Common.{◌≡◌, true, length, ◌∙◌, sym, subst}
-use Rattle.sched_core.specs.Booked.{unspent_view}
+use Rattle.reservations.specs.Booked.{unspent_view}
 use Rattle.core_rules.specs.Reservation.{unspent}
 use Rattle.core_rules.specs.Rule.{is_among}
 use Rattle.sched_core.proofs.BookLemmas.{log_room-spent}
-use Rattle.sched_core.proofs.SpendLemmas.{spends_no_key, registers_none, wants_no_room, spends_one}
+use Rattle.sched_core.proofs.SpendLemmas.{spends_quietly, spends_one}
 use Rattle.core_rules.proofs.StateLemmas.{spent_among}
 use Rattle.sched_core.proofs.state.SchedState.spend.Goals as goal
 
@@ -12,19 +12,19 @@ take_uncounted-requires-clause-rule g c κs within = rw c.self.view_is c.require
 
 pub take_uncounted-requires-clause-key : goal.take_uncounted-requires-clause-key
 take_uncounted-requires-clause-key g c κs within =
-    spends_no_key c.args.job c.args.entry.kind c.requires.spends (length c.self.inside.journal.log.items)
+    (spends_quietly c.args.job c.args.entry.kind c.requires.spends).key (length c.self.inside.journal.log.items)
 
 pub take_uncounted-requires-clause-row_room : goal.take_uncounted-requires-clause-row_room
 take_uncounted-requires-clause-row_room g c κs within =
-    λ may. registers_none c.args.job c.args.entry.kind c.requires.spends may
+    λ may. absurd ((spends_quietly c.args.job c.args.entry.kind c.requires.spends).row may)
 
 pub take_uncounted-requires-clause-job_room : goal.take_uncounted-requires-clause-job_room
 take_uncounted-requires-clause-job_room g c κs within =
-    wants_no_room c.args.job c.args.entry.kind c.requires.spends c.self.inside.journal.books.job_room
+    (spends_quietly c.args.job c.args.entry.kind c.requires.spends).job c.self.inside.journal.books.job_room
 
 pub take_uncounted-requires-clause-keys_room : goal.take_uncounted-requires-clause-keys_room
 take_uncounted-requires-clause-keys_room g c κs within =
-    λ may. registers_none c.args.job c.args.entry.kind c.requires.spends may
+    λ may. absurd ((spends_quietly c.args.job c.args.entry.kind c.requires.spends).row may)
 
 pub take_uncounted-requires-clause-log_room : goal.take_uncounted-requires-clause-log_room
 take_uncounted-requires-clause-log_room g c κs within =

@@ -1,4 +1,5 @@
-use Rattle.std.proofs.Common.{◌≡◌, ◌∙◌, ◌≤◌, length, nat_le, true, Ok, IfErr, OnOk, OnErr, sym, subst, arith}
+use Rattle.std.proofs.Common.{◌≡◌, ◌∙◌, ◌≤◌, length, nat_le, true, Ok, IfErr, OnOk, OnErr, inr, refl, sym, subst}
+use Rattle.std.proofs.Common.{arith}
 use Rattle.std.specs.Map.{keys_of}
 use Rattle.std.specs.List.{IsDistinct}
 use Rattle.std.specs.Str.{bytes_eq}
@@ -13,7 +14,12 @@ use Rattle.lru_disk_cache.specs.Store.{insert_verdict}
 use Rattle.toolchain_cache.proofs.TcSteps.{stored_keyed, stored_ok, stored_fails, stored_in_step}
 use Rattle.toolchain_cache.proofs.TcSteps.{archive_admitted, insert_admitted}
 use Rattle.toolchain_cache.specs.Archiving.{dropped_for}
+use Rattle.folders.specs.Files.{front}
+use Rattle.lru_disk_cache.specs.Disk.{ButInsert}
 use Rattle.toolchain_cache.specs.Stored.{KeepsArchives, PlacesArchive, staying_for}
+use Rattle.toolchain_cache.proofs.SpoiledArchives.{keyed_inserted}
+use Rattle.lru_disk_cache.specs.Spoiling.{MaySpoil}
+use Rattle.lru_disk_cache.proofs.Counted.{may_spoil}
 use Rattle.toolchain_cache.proofs.StoredLemmas.{kept_archives, left_archives, placed_archive}
 use Rattle.toolchain_cache.proofs.tc_cache.TcCache.insert_verified.Goals as goal
 
@@ -134,3 +140,28 @@ returns-clause-exact g c =
     (g.F.Folder.held c.insert_bytes-answer.new.self.folder) c.insert_bytes-answer.result
     c.key_of.ensures.id (c.get.ensures.text ∙ c.in-Ok.ensures.key) c.self.invariant
     c.insert_bytes-answer.ensures.exact)
+
+pub returns-clause-stays : goal.returns-clause-stays
+returns-clause-stays g c =
+    subst (λ s. Became (ButInsert (front s.path) s.spoiled) (g.F.Folder.held s.folder).files
+    (g.F.Folder.held c.insert_bytes-answer.new.self.folder).files) c.self.view_is
+    (keyed_inserted (g.F.Folder.held c.self.inside.cache.folder) c.self.inside.cache.disk
+    c.self.inside.cache.spoiled (g.F.Folder.held c.self.inside.cache.folder).files
+    (g.F.Folder.held c.insert_bytes-answer.new.self.folder).files c.self.invariant c.insert_bytes-answer.ensures.stays)
+
+pub returns-clause-spoils : goal.returns-clause-spoils
+returns-clause-spoils g c =
+    subst (λ s. IfErr c.insert_bytes-answer.result (λ e. MaySpoil e s.spoiled
+    c.insert_bytes-answer.new.self.spoiled (g.F.Folder.held s.folder)
+    (g.F.Folder.held c.insert_bytes-answer.new.self.folder))) c.self.view_is
+    (may_spoil c.get.result.now (length c.args.bytes.now) c.self.inside.cache.disk
+    c.insert_bytes-answer.new.self.disk (g.F.Folder.held c.self.inside.cache.folder)
+    (g.F.Folder.held c.insert_bytes-answer.new.self.folder) c.self.inside.cache.spoiled
+    c.insert_bytes-answer.new.self.spoiled c.insert_bytes-answer.result c.insert_bytes-answer.ensures.fails
+    c.insert_bytes-answer.ensures.spoils)
+
+pub returns-then-not-can_store-clause-spoils : goal.returns-then-not-can_store-clause-spoils
+returns-then-not-can_store-clause-spoils g c = (refl, refl)
+
+pub returns-in_default-clause-spoils : goal.returns-in_default-clause-spoils
+returns-in_default-clause-spoils g c = inr (refl, refl)

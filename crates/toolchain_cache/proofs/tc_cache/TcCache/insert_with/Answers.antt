@@ -41,9 +41,9 @@ returns-in-Ok-clause-fails g c =
 
 pub returns-in-Err-clause-fails : goal.returns-in-Err-clause-fails
 returns-in-Err-clause-fails g c =
-    store_failed (Wrote g.W.FnOnce (λ v. v.items) c.args.with) c.args.self.now.capacity c.args.tc.now
-    c.args.self.now.archives c.in-Err.error (g.F.Folder.held c.args.self.now.folder)
-    c.in-Err.ensures.fails
+    (store_failed (Wrote g.W.FnOnce (λ v. v.items) c.args.with) c.args.self.now.capacity c.args.tc.now
+    c.args.self.now.archives c.in-Err.error c.args.self.now.spoiled
+    (g.F.Folder.held c.args.self.now.folder) c.in-Err.ensures.fails).0
 
 pub returns-in-Ok-clause-whole : goal.returns-in-Ok-clause-whole
 returns-in-Ok-clause-whole g c =
@@ -52,3 +52,9 @@ returns-in-Ok-clause-whole g c =
     (g.F.Folder.held c.args.self.now.folder).files (g.F.Folder.held c.insert_bytes.new.self.folder).files
     (subst (Wrote g.W.FnOnce (λ v. v.items) c.args.with (Ok (tt {0}))) (sym c.deref.ensures.value)
     c.in-Ok.ensures.ok) c.insert_bytes.ensures.whole
+
+pub returns-in-Err-clause-spoils : goal.returns-in-Err-clause-spoils
+returns-in-Err-clause-spoils g c =
+    (store_failed (Wrote g.W.FnOnce (λ v. v.items) c.args.with) c.args.self.now.capacity c.args.tc.now
+    c.args.self.now.archives c.in-Err.error c.args.self.now.spoiled
+    (g.F.Folder.held c.args.self.now.folder) c.in-Err.ensures.fails).1

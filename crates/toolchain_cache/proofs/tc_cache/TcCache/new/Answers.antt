@@ -1,4 +1,4 @@
-use Rattle.std.proofs.Common.{◌≡◌, ◌∙◌, List, ℕ, true, map, ap, subst}
+use Rattle.std.proofs.Common.{◌≡◌, ◌∙◌, List, ℕ, true, map, IfOk, ap, subst}
 use Rattle.folders.specs.Files.{front}
 use Rattle.folders.specs.Held.{Holds, Became}
 use Rattle.folders.specs.Changed.{ButUnder, OnlyRemoved}
@@ -30,7 +30,7 @@ returns-in-Ok-new-clause-opened g c =
     (λ files. t.archives ≡ opened_archives c.args.cache_dir.now c.args.cache_size files))
     (λ t. NoneTold (g.F.Folder.held c.in-Ok-new.cache.folder) (g.F.Folder.held t.folder))
     (are_archive_keys c.in-Ok-new.cache.disk.entries ≡ true)
-    (archives_of c.in-Ok-new.cache.disk c.in-Ok-new.cache.folder) c.over.result
+    (archives_of c.in-Ok-new.cache.disk c.in-Ok-new.cache.folder c.in-Ok-new.cache.spoiled) c.over.result
     c.over.ensures.ok
     (λ k. opened_new c.args.cache_dir.now c.in-Ok.root c.args.cache_size (g.F.Folder.held c.args.folder)
     (g.F.Folder.held c.clean.new.folder) (g.F.Folder.held c.in-Ok-new.cache.folder) c.in-Ok-new.cache.disk
@@ -45,7 +45,7 @@ returns-in-Ok-new-clause-relists g c =
     (λ files. Relists c.args.cache_dir.now c.args.cache_size files t.archives))
     (λ t. NoneTold (g.F.Folder.held c.in-Ok-new.cache.folder) (g.F.Folder.held t.folder))
     (are_archive_keys c.in-Ok-new.cache.disk.entries ≡ true)
-    (archives_of c.in-Ok-new.cache.disk c.in-Ok-new.cache.folder) c.over.result
+    (archives_of c.in-Ok-new.cache.disk c.in-Ok-new.cache.folder c.in-Ok-new.cache.spoiled) c.over.result
     c.over.ensures.ok
     (λ k. relists_new c.args.cache_dir.now c.in-Ok.root c.args.cache_size (g.F.Folder.held c.args.folder)
     (g.F.Folder.held c.clean.new.folder) (g.F.Folder.held c.in-Ok-new.cache.folder) c.in-Ok-new.cache.disk
@@ -59,7 +59,7 @@ returns-in-Ok-new-clause-in_step g c =
     made_ok (λ t. IsInStep c.args.cache_dir.now (g.F.Folder.held t.folder) t.archives)
     (λ t. NoneTold (g.F.Folder.held c.in-Ok-new.cache.folder) (g.F.Folder.held t.folder))
     (are_archive_keys c.in-Ok-new.cache.disk.entries ≡ true)
-    (archives_of c.in-Ok-new.cache.disk c.in-Ok-new.cache.folder) c.over.result
+    (archives_of c.in-Ok-new.cache.disk c.in-Ok-new.cache.folder c.in-Ok-new.cache.spoiled) c.over.result
     c.over.ensures.ok
     (λ k. in_step_new c.args.cache_dir.now c.in-Ok.root c.args.cache_size (g.F.Folder.held c.args.folder)
     (g.F.Folder.held c.clean.new.folder) (g.F.Folder.held c.in-Ok-new.cache.folder) c.in-Ok-new.cache.disk
@@ -78,7 +78,7 @@ returns-in-Ok-new-clause-cleared g c =
     (λ (a : List ℕ × ℕ). archive_path c.args.cache_dir.now a.0) t.archives))
     (λ t. NoneTold (g.F.Folder.held c.in-Ok-new.cache.folder) (g.F.Folder.held t.folder))
     (are_archive_keys c.in-Ok-new.cache.disk.entries ≡ true)
-    (archives_of c.in-Ok-new.cache.disk c.in-Ok-new.cache.folder) c.over.result
+    (archives_of c.in-Ok-new.cache.disk c.in-Ok-new.cache.folder c.in-Ok-new.cache.spoiled) c.over.result
     c.over.ensures.ok
     (λ k. cleared_new c.args.cache_dir.now c.in-Ok.root c.args.cache_size (g.F.Folder.held c.args.folder)
     (g.F.Folder.held c.clean.new.folder) (g.F.Folder.held c.in-Ok-new.cache.folder) c.in-Ok-new.cache.disk
@@ -107,7 +107,7 @@ returns-in-Ok-new-clause-removed g c =
     made_ok (λ t. Became OnlyRemoved (g.F.Folder.held c.args.folder).files (g.F.Folder.held t.folder).files)
     (λ t. NoneTold (g.F.Folder.held c.in-Ok-new.cache.folder) (g.F.Folder.held t.folder))
     (are_archive_keys c.in-Ok-new.cache.disk.entries ≡ true)
-    (archives_of c.in-Ok-new.cache.disk c.in-Ok-new.cache.folder) c.over.result
+    (archives_of c.in-Ok-new.cache.disk c.in-Ok-new.cache.folder c.in-Ok-new.cache.spoiled) c.over.result
     c.over.ensures.ok
     (λ k. removed_both (g.F.Folder.held c.args.folder).files (g.F.Folder.held c.clean.new.folder).files
     (g.F.Folder.held c.in-Ok-new.cache.folder).files
@@ -123,7 +123,7 @@ returns-in-Ok-new-clause-others g c =
     made_ok (λ t. Became (ButUnder (front c.args.cache_dir.now)) (g.F.Folder.held c.args.folder).files
     (g.F.Folder.held t.folder).files) (λ t. NoneTold (g.F.Folder.held c.in-Ok-new.cache.folder) (g.F.Folder.held t.folder))
     (are_archive_keys c.in-Ok-new.cache.disk.entries ≡ true)
-    (archives_of c.in-Ok-new.cache.disk c.in-Ok-new.cache.folder) c.over.result
+    (archives_of c.in-Ok-new.cache.disk c.in-Ok-new.cache.folder c.in-Ok-new.cache.spoiled) c.over.result
     c.over.ensures.ok
     (λ k. outside_new c.args.cache_dir.now c.in-Ok.root c.args.cache_size (g.F.Folder.held c.args.folder)
     (g.F.Folder.held c.clean.new.folder) (g.F.Folder.held c.in-Ok-new.cache.folder) c.in-Ok-new.cache.disk
@@ -197,7 +197,7 @@ returns-in-Ok-new-clause-kept g c =
     (g.F.Folder.held c.args.folder).files (g.F.Folder.held t.folder).files)
     (λ t. NoneTold (g.F.Folder.held c.in-Ok-new.cache.folder) (g.F.Folder.held t.folder))
     (are_archive_keys c.in-Ok-new.cache.disk.entries ≡ true)
-    (archives_of c.in-Ok-new.cache.disk c.in-Ok-new.cache.folder) c.over.result
+    (archives_of c.in-Ok-new.cache.disk c.in-Ok-new.cache.folder c.in-Ok-new.cache.spoiled) c.over.result
     c.over.ensures.ok
     (λ k. (refused_listed c.args.cache_dir.now c.in-Ok.root c.args.cache_size (g.F.Folder.held c.args.folder).files
     (g.F.Folder.held c.clean.new.folder).files (g.F.Folder.held c.in-Ok-new.cache.folder).files c.in-Ok.ensures.1
@@ -209,3 +209,7 @@ returns-in-Ok-new-clause-kept g c =
     (λ t none. became_none (KeepsListed c.args.cache_dir.now c.args.cache_size) (g.F.Folder.held c.args.folder).files
     (g.F.Folder.held t.folder).files (first_none c.in-Ok.root c.args.cache_size (g.F.Folder.held c.args.folder) (g.F.Folder.held c.clean.new.folder)
     (g.F.Folder.held c.in-Ok-new.cache.folder) c.in-Ok-clean.ensures.cleaned c.in-Ok-new.ensures.removed none.0) none.1)
+
+pub returns-in-Ok-new-clause-begun : goal.returns-in-Ok-new-clause-begun
+returns-in-Ok-new-clause-begun g c =
+    subst (λ n. IfOk c.over.result (λ t. t.spoiled ≡ n)) c.in-Ok-new.ensures.empty.3 c.over.ensures.spoiled

@@ -3,11 +3,11 @@ use Rattle.std.specs.Map.{keys_of, lookup}
 use Rattle.std.specs.List.{IsDistinct}
 use Rattle.std.specs.Str.{bytes_eq}
 use Rattle.folders.specs.Changed.{ButAt}
-use Rattle.folders.specs.Files.{without}
+use Rattle.folders.specs.Files.{front, without}
 use Rattle.folders.specs.Held.{Holds, Became, BecameBy, Lacks}
-use Rattle.lru_disk_cache.specs.declared.error.Error.TheVariants.{Memory as NoMemory}
+use Rattle.dist_types.specs.declared.cache_error.Error.TheVariants.{Memory as NoMemory}
 use Rattle.lru_disk_cache.specs.Entries.{total}
-use Rattle.lru_disk_cache.specs.Disk.{without_key}
+use Rattle.lru_disk_cache.specs.Disk.{without_key, KeepsSpoiled}
 use Rattle.toolchain_cache.specs.Archives.{archive_path, IsInStep}
 use Rattle.toolchain_cache.specs.Archiving.{DropFails}
 use Rattle.toolchain_cache.specs.Keyed.{unkeyed, IsKeyed}
@@ -17,6 +17,7 @@ use Rattle.toolchain_cache.proofs.TcSteps.{removed_in_step}
 use Rattle.toolchain_cache.specs.Stored.{KeepsArchives}
 use Rattle.toolchain_cache.proofs.StoredLemmas.{removed_memory_un, keeps_archives, removed_archive, same_archive}
 use Rattle.toolchain_cache.proofs.StoredLemmas.{but_archive, absent_out}
+use Rattle.toolchain_cache.proofs.SpoiledArchives.{keyed_spoiled}
 use Rattle.toolchain_cache.proofs.tc_cache.TcCache.remove.Goals as goal
 
 pub invariant_of-self : goal.invariant_of-self
@@ -133,3 +134,11 @@ pub returns-in_default-clause-ok : goal.returns-in_default-clause-ok
 returns-in_default-clause-ok g c =
     absent_out c.args.tc.now c.args.self.now.archives c.contains_toolchain.result
     c.contains_toolchain.ensures.listed c.if-contains_toolchain.false
+
+pub returns-clause-stays : goal.returns-clause-stays
+returns-clause-stays g c =
+    subst (λ s. Became (KeepsSpoiled (front s.path) s.spoiled) (g.F.Folder.held s.folder).files
+    (g.F.Folder.held c.remove-answer.new.self.folder).files) c.self.view_is
+    (keyed_spoiled (g.F.Folder.held c.self.inside.cache.folder) c.self.inside.cache.disk
+    c.self.inside.cache.spoiled (g.F.Folder.held c.self.inside.cache.folder).files
+    (g.F.Folder.held c.remove-answer.new.self.folder).files c.self.invariant c.remove-answer.ensures.stays)

@@ -1,0 +1,2 @@
+//! The lines of a script.
+pub use farm_script::lines::{Line, SetupLine};

@@ -1,0 +1,11 @@
+use Rattle.std.proofs.Common.{refl}
+use Rattle.std.specs.Vec.Iter.{into_iter_items}
+use Rattle.std.proofs.lemmas.Iterator.{items_from_collect}
+use Rattle.std.proofs.lemmas.Iterator.Adapters.{YieldsList-from_vec}
+use Rattle.line_program.proofs.words.words_in.Goals as goal
+
+pub returns : goal.returns
+returns c = record {
+  words = items_from_collect c.collect.result c.collect.ensures.ran
+      (YieldsList-from_vec (into_iter_items c.args.args) refl c.args.args.rest.ok.0);
+}

@@ -1,0 +1,6 @@
+pub mod FirstFaultyLemmas
+pub mod IdLemmas
+pub mod LineLemmas
+pub mod MatchLemmas
+pub mod SpelledLemmas
+pub mod UsedLemmas

@@ -1,0 +1,4 @@
+pub mod BookingLemmas
+pub mod ByIdLemmas
+pub mod OwnPlaceLemmas
+pub mod OwnRowLemmas

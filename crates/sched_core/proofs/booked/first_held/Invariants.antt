@@ -1,6 +1,0 @@
-use Rattle.std.proofs.Common.{◌≡◌, drop}
-use Rattle.sched_core.specs.Booked.{job_view}
-use Rattle.sched_core.proofs.booked.first_held.Given as goal
-
-abbrev pub invariant-loop-place : goal.invariant-loop-place
-invariant-loop-place l = job_view l.rows ≡ job_view (drop l.place l.rows)

@@ -1,8 +1,0 @@
-use Rattle.std.proofs.Common.{◌≡◌, drop, map}
-use Rattle.sched_core.specs.Own.{ended_jobs}
-use Rattle.sched_core.proofs.bookings.Bookings.end_jobs.Given as goal
-
-abbrev pub invariant-loop-job : goal.invariant-loop-job
-invariant-loop-job l = (map (ended_jobs (drop l.job-index l.jobs)) l.self.rows
-    ≡ map (ended_jobs l.jobs) l.initial.self.rows)
-    × (l.self.first ≡ l.initial.self.first) × (l.self.has_room ≡ l.initial.self.has_room)

@@ -1,4 +1,0 @@
-use Rattle.sched_core.proofs.own.make_room.Given as goal
-
-abbrev pub ghosts-sweep : goal.ghosts-sweep
-ghosts-sweep a = record { name = a.blank.name; parts = a.blank.parts }

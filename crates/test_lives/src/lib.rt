@@ -1,0 +1,12 @@
+//! The program of a scheduler's lives over calls that fail, worked rows, and each kind of line. The expected texts
+//! were written by hand or by an outside model, none is our own output.
+#![tactic(auto)]
+
+#[cfg(test)]
+mod failing;
+#[cfg(test)]
+mod ran;
+#[cfg(test)]
+mod rows;
+#[cfg(test)]
+mod table;
