@@ -23,7 +23,6 @@ use Rattle.farm_entries.specs.declared.site.SiteServer.{SiteServer as SetupServe
 use Rattle.farm_entries.specs.declared.entry.Effect.{Effect}
 use Rattle.farm_entries.specs.declared.entry.Entry.{Entry}
 use Rattle.farm_entries.specs.declared.entry.Step.{Step}
-use Rattle.farm_entries.specs.declared.entry.StepKind.TheVariants as kinds
 use Rattle.farm_stations.specs.Post.{Post as Station}
 use Rattle.farm_entries.specs.Effects.{entry_of}
 use Rattle.farm_entries.specs.Servers.{ServerNow, kind_after, restart_by, restarted, stepped, server_of}

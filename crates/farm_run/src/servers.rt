@@ -38,7 +38,7 @@ use folders::folder::Folder;
 use http_routes::fault::RouteFault;
 use http_routes::replies::{to_assignment, to_fault, want_of_memory};
 use http_routes::requests::{heartbeat_request, state_request};
-use http_routes::server_route::{ServerAsked, ServerRouted, server_asked};
+use http_routes::server_route::{ServerAsked, ServerRouted};
 use line_program::fault::FarmFault;
 use std::alloc::Global;
 
@@ -290,7 +290,7 @@ pub fn serve_at<F: Folder + Drop, B: BuilderIncoming + Drop>(
     ensures around { around_of station.new ≡ around_of station.old }
     ensures err { IfErr result (λ e. e ≡ fault.Memory) }
 {
-    let question = match server_asked(desk.alloc, arrival.bytes, station.authorizer()) {
+    let question = match station.asked(desk.alloc, arrival.bytes) {
         Ok(question) => question,
         Err(error) => return Err(FarmFault::from(want_of_memory(error))),
     };

@@ -4,7 +4,7 @@ use Rattle.std.proofs.Common.{List, [], ◌∷◌, ◌++◌, length, drop, Optio
 use Rattle.std.proofs.Common.{refl, sym, ap, subst, ◌∙◌, arith}
 use Rattle.std.specs.Prelude.{slice_get, IfSome, is_some, ◌||◌}
 use Rattle.std.specs.Option.{option_map}
-use Rattle.std.proofs.lemmas.Bool.{cases_lt, true≢false}
+use Rattle.std.proofs.lemmas.Bool.{cases_lt}
 use Rattle.std.proofs.lemmas.Option.{same_Some}
 use Rattle.dist_types.specs.Builder.{Answering, AnswersBy, Built, built_row}
 use Rattle.dist_types.specs.Cause.{counted}
@@ -18,7 +18,6 @@ use Rattle.dist_wire.specs.declared.run.RunJobHttpRequest.{RunJobHttpRequest}
 use Rattle.build_server.specs.Builds.{Builder, Order, row_for, IsBuilt, Builds, outcome_of}
 use Rattle.build_server.specs.Builds.{outcome_by, is_due}
 use Rattle.build_server.specs.declared.run.Outcome.{Outcome}
-use Rattle.build_server.specs.declared.run.Outcome.TheVariants as outcome
 use Rattle.build_server.specs.declared.run.Taken.{Taken}
 use Rattle.build_server.specs.declared.run.Taken.TheVariants as taken
 use Rattle.farm_script.specs.declared.setup.BuilderLine.{BuilderLine}

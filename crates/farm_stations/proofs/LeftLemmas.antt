@@ -36,7 +36,7 @@ use Rattle.farm_entries.specs.declared.site.SiteServer.{SiteServer as SetupServe
 use Rattle.farm_entries.specs.Passage.{Stays, IsAsked, AsksOnce, Leaves}
 use Rattle.farm_entries.specs.Served.{build_answer}
 use Rattle.farm_entries.specs.Weather.{Outside, OnlyClears, failed_after_submit, failed_after_run, order_of}
-use Rattle.farm_stations.specs.Post.{Post as Station, outside_of, is_io}
+use Rattle.farm_stations.specs.Post.{is_io}
 use Rattle.farm_stations.specs.Stations.{BuildsBy}
 
 -- ---- nothing

@@ -1,3 +1,4 @@
+pub mod AcceptedLemmas
 pub mod HandLemmas
 pub mod LeftLemmas
 pub mod RunLemmas

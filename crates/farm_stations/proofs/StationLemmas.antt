@@ -13,7 +13,6 @@ use Rattle.lru_disk_cache.specs.Store.{OpenFails}
 use Rattle.dist_types.specs.declared.cache_error.Error.{Error}
 use Rattle.build_server.specs.Books.{Books}
 use Rattle.build_server.specs.Builds.{Builder}
-use Rattle.build_server.specs.declared.run.Ran.TheVariants as ran
 use Rattle.farm_entries.specs.declared.site.SiteServer.{SiteServer as SetupServer}
 use Rattle.farm_stations.specs.Post.{Post as Station, outside_of, closed_over, is_io, IsTelling, IsReopened}
 use Rattle.farm_stations.specs.Stations.{now_of, IsWell}

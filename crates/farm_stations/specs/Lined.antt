@@ -1,5 +1,5 @@
 -- What contracts see of a builder that answers by lines.
-use Rattle.std.specs.Prelude.{ℕ, List, length, slice_get}
+use Rattle.std.specs.Prelude.{ℕ, List, slice_get}
 use Rattle.dist_types.specs.Builder.{Answering, Built}
 use Rattle.farm_script.specs.declared.setup.BuilderLine.{BuilderLine}
 use Rattle.farm_entries.specs.Served.{build_answer}

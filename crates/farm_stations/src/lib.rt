@@ -9,6 +9,8 @@
 pub mod build_row;
 pub mod builder;
 pub mod copies;
+mod failed;
 pub mod folder_laws;
+pub mod job_tokens;
 pub mod own_builder;
 pub mod station;

@@ -13,6 +13,9 @@ ghost use Rattle.build_server.specs.Books.{held_for, placed};
 ghost use Rattle.build_server.specs.Builds.{builder_of, Builds, is_due, ran_of, built_of};
 ghost use Rattle.build_server.specs.Rules.{assign_verdict, Submits, Begins};
 ghost use Rattle.dist_types.specs.Cause.{counted};
+ghost use Rattle.dist_token.specs.Verdict.{job_verdict};
+ghost use Rattle.http_routes.specs.ServerRoute.{IsServerAsked};
+ghost use Rattle.http_head.specs.declared.error.HttpError.TheVariants as http;
 ghost use Rattle.dist_types.specs.declared.results.AssignJobResult.{AssignJobResult as Answer};
 ghost use Rattle.farm_entries.specs.Passage.{AsksOnce, IsAsked, Leaves};
 ghost use Rattle.farm_stations.specs.Hands.{handed_in, hand_by, HasLeft, IsCalled, IsGiven};
@@ -31,13 +34,14 @@ ghost use Rattle.farm_entries.specs.declared.entry.StepKind.TheVariants as kinds
 ghost use Rattle.line_program.specs.declared.fault.FarmFault.TheVariants as fault;
 ghost use Rattle.build_server.specs.declared.fault.ServerFault.TheVariants as server_fault;
 
+use crate::failed::{broke, broke_in, is_io};
+use crate::job_tokens::JobTokens;
 use crate::own_builder::OwnBuilder;
 use build_server::Held;
 use build_server::fault::ServerFault;
 use build_server::run::{Ran, RunDone, RunHeld};
 use build_server::state::ServerState;
 use build_server::submit::Submitted;
-use dist_token::job_token::JWTJobAuthorizer;
 use dist_types::builder::BuilderIncoming;
 use dist_types::ids::{JobId, ServerNonce};
 use dist_types::outgoing::CallFault;
@@ -49,6 +53,8 @@ use dist_wire::run::RunJobHttpRequest;
 use farm_entries::site::SiteServer;
 use farm_script::setup::SetupServer;
 use folders::folder::Folder;
+use http_routes::error::HttpError;
+use http_routes::server_route::ServerAsked;
 use line_program::fault::FarmFault;
 use lru_disk_cache::Error;
 use std::alloc::{AllocError, Global};
@@ -63,7 +69,7 @@ pub struct Station<F: Folder + Drop, B: BuilderIncoming + Drop> {
     life: u64,
     nonce: ServerNonce,
     /// Under the key of its life.
-    authorizer: JWTJobAuthorizer,
+    authorizer: JobTokens,
     /// What it keeps, where it runs.
     state: Option<ServerState<F>>,
     /// Its folder, where its last opening failed.
@@ -215,50 +221,6 @@ fn list_of<F: Folder + Drop>(
 {
     let list = state.archives().collect(alloc)?;
     Ok(Items::new(list))
-}
-
-/// Whether the folder failed in a submission.
-fn broke(outcome: &Submitted) -> bool
-    ensures { result ≡ failed_after_submit outcome.now false }
-{
-    match outcome {
-        Submitted::None => false,
-        Submitted::Listed => false,
-        Submitted::Stored(_, _) => false,
-        Submitted::Digest => false,
-        Submitted::Capacity => false,
-        Submitted::Folder(_) => true,
-    }
-}
-
-/// Whether the folder failed in a run.
-fn broke_in(ran: Ran) -> bool
-    ensures { result ≡ failed_after_run ran false }
-{
-    match ran {
-        Ran::None => false,
-        Ran::Unlisted(_) => false,
-        Ran::Folder(_) => true,
-        Ran::Built(_) => false,
-        Ran::Refused(_) => false,
-    }
-}
-
-/// Whether an opening failed by its folder.
-fn is_io(error: &Error) -> bool
-    ensures io { result ≡ is_io error.now }
-{
-    match error {
-        Error::Io(_) => true,
-        Error::Memory => false,
-        Error::FileTooLarge => false,
-        Error::FileNotInCache => false,
-        Error::PendingSpace => false,
-        Error::BadKey => false,
-        Error::NotPending => false,
-        Error::WrongDigest => false,
-        Error::WriterRefused => false,
-    }
 }
 
 /// A build of what was taken out.
@@ -479,7 +441,7 @@ impl<F: Folder + Drop, B: BuilderIncoming + Drop> Station<F, B> {
             (λ p. p.0.hand ≡ hand_by (option_map (builder_of B.built B.refusals) builder) own) }
         ensures err { IfErr result (λ e. e ≡ fault.Memory) }
     {
-        let authorizer = JWTJobAuthorizer::of_key(Vec::from_slice(alloc, server.key.get())?);
+        let authorizer = JobTokens::of_key(Vec::from_slice(alloc, server.key.get())?);
         match open(alloc, folder, server.capacity) {
             Ok(state) => {
                 let found = list_of(alloc, &state)?;
@@ -538,10 +500,19 @@ impl<F: Folder + Drop, B: BuilderIncoming + Drop> Station<F, B> {
     }
 
     /// What makes and takes the tokens of its life.
-    pub fn authorizer(&self) -> &JWTJobAuthorizer
+    pub fn authorizer(&self) -> &JobTokens
         ensures { result.now ≡ self.now.authorizer }
     {
         &self.authorizer
+    }
+
+    /// What the bytes ask of it. What it tells stays as it was. Refused for want of memory alone.
+    pub fn asked(&mut self, alloc: Global, bytes: &[u8]) -> Result<ServerAsked, HttpError>
+        ensures ok { IfOk result (IsServerAsked (job_verdict self.old.authorizer) bytes.now) }
+        ensures same { self.new ≡ self.old }
+        ensures err { IfErr result (λ e. e ≡ http.Memory) }
+    {
+        self.authorizer.asked(alloc, bytes)
     }
 
     /// Whether it runs.
@@ -749,7 +720,7 @@ impl<F: Folder + Drop, B: BuilderIncoming + Drop> Station<F, B> {
         if self.is_shut() {
             return Err(FarmFault::Memory);
         }
-        let authorizer = JWTJobAuthorizer::of_key(Vec::from_slice(alloc, key)?);
+        let authorizer = JobTokens::of_key(Vec::from_slice(alloc, key)?);
         let state = self.state.take();
         let closed = self.closed.take();
         match open_over(alloc, state, closed, server.capacity) {
