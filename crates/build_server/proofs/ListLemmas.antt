@@ -10,8 +10,8 @@ use Rattle.std.proofs.lemmas.List.{length-map}
 use Rattle.std.proofs.lemmas.Bool.{true≢false}
 use Rattle.std.proofs.lemmas.Slice.Eq.{bytes_eq-Decides}
 use Rattle.toolchain_cache.specs.Archives.{Archives}
-use Rattle.lru_disk_cache.specs.Disk.{dropped, without_key}
-use Rattle.lru_disk_cache.specs.Entries.{total, trim}
+use Rattle.listed_files.specs.Disk.{dropped, without_key}
+use Rattle.listed_files.specs.Entries.{total, trim}
 use Rattle.build_server.specs.Books.{ids, without_ids, is_listed}
 
 -- what is not listed needs not be taken out

@@ -8,9 +8,9 @@ use Rattle.std.specs.Str.{bytes_eq}
 use Rattle.toolchain_cache.specs.Archives.{Archives, IsArchiveStore, id_of}
 use Rattle.toolchain_cache.specs.Archiving.{archive_verdict, with_archive, StoreFails}
 use Rattle.folders.proofs.Became.{became_same}
-use Rattle.lru_disk_cache.specs.Disk.{Left, dropped}
+use Rattle.listed_files.specs.Disk.{Left, dropped}
 use Rattle.folders.specs.Changed.{ButUnder}
-use Rattle.lru_disk_cache.specs.Entries.{trim}
+use Rattle.listed_files.specs.Entries.{trim}
 use Rattle.folders.specs.Files.{Files, front}
 use Rattle.folders.specs.Held.{Held, Became}
 use Rattle.lru_disk_cache.specs.Store.{IoCause}

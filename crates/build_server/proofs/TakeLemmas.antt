@@ -3,7 +3,7 @@ use Rattle.std.proofs.Common.{◌≡◌, ℕ, Bool, true, false, cond, List, [],
 use Rattle.std.proofs.Common.{ap, subst, arith}
 use Rattle.std.specs.Prelude.{not}
 use Rattle.dist_types.specs.declared.ids.JobId.{JobId}
-use Rattle.lru_disk_cache.specs.Entries.{promoted_key}
+use Rattle.listed_files.specs.Entries.{promoted_key}
 use Rattle.build_server.specs.Books.{Books, Table, is_job, held_for, without_job, is_listed, KeepsStep}
 use Rattle.build_server.specs.Rules.{Finds, FolderHeld, SamePlace, IsTaken}
 use Rattle.build_server.specs.Stores.{Reads}

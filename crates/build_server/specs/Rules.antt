@@ -13,11 +13,11 @@ use Rattle.dist_types.specs.declared.results.SubmitToolchainResult.TheVariants a
 use Rattle.dist_types.specs.declared.results.UpdateJobStateResult.{UpdateJobStateResult}
 use Rattle.toolchain_cache.specs.Archives.{Archives, id_of, archive_path, IsInStep}
 use Rattle.toolchain_cache.specs.Archiving.{archive_verdict, with_archive, StoreFails}
-use Rattle.lru_disk_cache.specs.Disk.{dropped}
-use Rattle.lru_disk_cache.specs.Store.{Uncounted}
+use Rattle.listed_files.specs.Disk.{dropped}
+use Rattle.listed_files.specs.Calls.{Uncounted}
 use Rattle.dist_types.specs.declared.cache_error.Error.{Error}
 use Rattle.folders.specs.Changed.{ButUnder}
-use Rattle.lru_disk_cache.specs.Entries.{promoted_key}
+use Rattle.listed_files.specs.Entries.{promoted_key}
 use Rattle.folders.specs.Files.{front, file_at}
 use Rattle.folders.specs.Held.{Held, Holds, Became}
 use Rattle.build_server.specs.Books.{Books, held_for, placed, without_job, is_listed, ids, without_ids, Fails}

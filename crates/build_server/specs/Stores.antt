@@ -2,7 +2,7 @@
 use Rattle.std.specs.Prelude.{◌≡◌, ◌⊎◌, ℕ, List, Some, Result, Ok, Err}
 use Rattle.dist_types.specs.declared.fault.Memory as want
 use Rattle.toolchain_cache.specs.Archives.{Archives, id_of}
-use Rattle.lru_disk_cache.specs.Entries.{promoted_key}
+use Rattle.listed_files.specs.Entries.{promoted_key}
 use Rattle.folders.specs.Held.{Held, Holds}
 use Rattle.dist_types.specs.declared.cache_error.Error.{Error}
 use Rattle.dist_types.specs.declared.cache_error.Error.TheVariants as error

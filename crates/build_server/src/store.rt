@@ -2,9 +2,9 @@
 ghost use Rattle.std.specs.Prelude.{◌≡◌, ◌≤◌, ◌-◌, length, take, is_some, true, false, IfOk, IfErr, OnOk, Ok};
 ghost use Rattle.std.specs.Prelude.{Err};
 ghost use Rattle.toolchain_cache.specs.Archives.{IsInStep, IsArchiveStore};
-ghost use Rattle.lru_disk_cache.specs.Disk.{dropped};
+ghost use Rattle.listed_files.specs.Disk.{dropped};
 ghost use Rattle.folders.specs.Changed.{ButUnder};
-ghost use Rattle.lru_disk_cache.specs.Entries.{total};
+ghost use Rattle.listed_files.specs.Entries.{total};
 ghost use Rattle.folders.specs.Files.{front};
 ghost use Rattle.folders.specs.Held.{Became};
 ghost use Rattle.build_server.specs.Books.{ids, is_listed};

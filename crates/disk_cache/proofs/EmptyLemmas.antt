@@ -17,7 +17,7 @@ use Rattle.folders.proofs.Distinct.{apart}
 use Rattle.folders.proofs.Exactly.{without_was}
 use Rattle.toolchain_cache.proofs.InStep.{in_more}
 use Rattle.folders.proofs.Lookups.{itself, without_other, without_same}
-use Rattle.lru_disk_cache.proofs.Strips.{begins}
+use Rattle.listed_files.proofs.Strips.{begins}
 use Rattle.disk_cache.specs.Names.{IsBeside}
 use Rattle.disk_cache.specs.Opening.{IsEmpty, AreApart, SameArchives}
 

@@ -10,7 +10,7 @@ use Rattle.folders.specs.Held.{Held, Holds, Became}
 use Rattle.folders.specs.Changed.{RemovedUnder}
 use Rattle.folders.proofs.Became.{became_map, became_then, became_from}
 use Rattle.folders.proofs.Distinct.{apart}
-use Rattle.lru_disk_cache.specs.Entries.{trim}
+use Rattle.listed_files.specs.Entries.{trim}
 use Rattle.toolchain_cache.specs.Archives.{Archives, archive_key, archive_path, opened_archives, paths_under}
 use Rattle.toolchain_cache.specs.Stored.{KeepsArchives, KeepsListed}
 use Rattle.toolchain_cache.proofs.Sparing.{all_then}

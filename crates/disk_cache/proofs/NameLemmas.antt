@@ -3,7 +3,7 @@ use Rattle.std.proofs.Common.{◌≡◌, ℕ, false, List, [], ◌∷◌, ◌++�
 use Rattle.std.proofs.Common.{append_assoc}
 use Rattle.std.specs.Str.{bytes_eq}
 use Rattle.folders.specs.Files.{front}
-use Rattle.lru_disk_cache.proofs.Paths.{same_front}
+use Rattle.listed_files.proofs.Paths.{same_front}
 use Rattle.disk_cache.specs.declared.names.Names.{Names}
 use Rattle.disk_cache.specs.Names.{AreNames, IsBeside, cache_path, weak_path, temp_dir, temp_path}
 use Rattle.disk_cache.specs.Opening.{AreApart}

@@ -8,7 +8,7 @@ use Rattle.dist_types.specs.Cause.{Rose}
 use Rattle.folders.specs.Files.{Files, file_at, front}
 use Rattle.folders.specs.Held.{Held, Holds, Became, Lacks}
 use Rattle.folders.specs.Changed.{ButUnder}
-use Rattle.lru_disk_cache.specs.Entries.{trim}
+use Rattle.listed_files.specs.Entries.{trim}
 use Rattle.toolchain_cache.specs.Archives.{Archives, opened_archives}
 use Rattle.lru_disk_cache.specs.Store.{IoCause}
 use Rattle.dist_types.specs.declared.cache_error.Error.TheVariants.{Io}

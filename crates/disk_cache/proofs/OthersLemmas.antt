@@ -6,8 +6,8 @@ use Rattle.folders.specs.Files.{Files, front}
 use Rattle.folders.specs.Held.{Became}
 use Rattle.folders.proofs.Became.{became_map, became_same, became_then}
 use Rattle.folders.proofs.Distinct.{apart}
-use Rattle.lru_disk_cache.specs.Disk.{KeepsSpoiled}
-use Rattle.lru_disk_cache.specs.Key.{insert_name}
+use Rattle.listed_files.specs.Disk.{KeepsSpoiled}
+use Rattle.listed_files.specs.Key.{insert_name}
 use Rattle.lru_disk_cache.proofs.Spoiled.{none_spoiled}
 use Rattle.disk_cache.specs.Names.{cache_path, weak_path, temp_path}
 use Rattle.disk_cache.specs.Opening.{ButOwn}

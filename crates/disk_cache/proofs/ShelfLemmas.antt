@@ -11,8 +11,8 @@ use Rattle.dist_types.specs.declared.cache_error.Error.TheVariants.{FileTooLarge
 use Rattle.dist_types.specs.declared.cache_error.Error.TheVariants.{PendingSpace, BadKey, NotPending}
 use Rattle.dist_types.specs.declared.cache_error.Error.TheVariants.{WrongDigest, WriterRefused}
 use Rattle.dist_types.specs.declared.cache_error.Error.TheVariants.{Memory as NoMemory}
-use Rattle.lru_disk_cache.specs.Disk.{ButInsert, KeepsSpoiled}
-use Rattle.lru_disk_cache.specs.Key.{insert_name}
+use Rattle.listed_files.specs.Disk.{ButInsert, KeepsSpoiled}
+use Rattle.listed_files.specs.Key.{insert_name}
 use Rattle.lru_disk_cache.specs.Spoiling.{MaySpoil}
 use Rattle.dist_types.specs.Cause.{counted}
 use Rattle.std.specs.Prelude.{◌⊎◌}

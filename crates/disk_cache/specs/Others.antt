@@ -3,7 +3,7 @@ use Rattle.std.specs.Prelude.{◌≡◌, ◌≤◌, ◌⊎◌, List, ℕ, Some}
 use Rattle.folders.specs.Files.{Files, front}
 use Rattle.folders.specs.Held.{Became}
 use Rattle.folders.specs.Changed.{ButUnder}
-use Rattle.lru_disk_cache.specs.Disk.{KeepsSpoiled}
+use Rattle.listed_files.specs.Disk.{KeepsSpoiled}
 use Rattle.disk_cache.specs.Names.{cache_path}
 use Rattle.disk_cache.specs.Opening.{ButOwn}
 use Rattle.disk_cache.specs.Toolchains.{Toolchains}

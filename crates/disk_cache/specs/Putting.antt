@@ -10,8 +10,9 @@ use Rattle.folders.specs.Files.{file_at}
 use Rattle.folders.specs.Held.{Holds, Became}
 use Rattle.toolchain_cache.specs.Archives.{id_of, archive_path}
 use Rattle.toolchain_cache.specs.Archiving.{with_archive, StoreFails}
-use Rattle.lru_disk_cache.specs.Entries.{promoted_key}
-use Rattle.lru_disk_cache.specs.Store.{IoCause, Uncounted}
+use Rattle.listed_files.specs.Entries.{promoted_key}
+use Rattle.lru_disk_cache.specs.Store.{IoCause}
+use Rattle.listed_files.specs.Calls.{Uncounted}
 use Rattle.lru_disk_cache.specs.Spoiling.{MaySpoil}
 use Rattle.dist_types.specs.declared.cache_error.Error.{Error}
 use Rattle.dist_types.specs.declared.cache_error.Error.TheVariants.{Io, FileNotInCache}

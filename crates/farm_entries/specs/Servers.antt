@@ -6,7 +6,7 @@ use Rattle.dist_types.specs.Addr.{same_addr}
 use Rattle.dist_types.specs.Cause.{counted}
 use Rattle.dist_types.specs.declared.addr.Addr.{Addr}
 use Rattle.toolchain_cache.specs.Archives.{Archives}
-use Rattle.lru_disk_cache.specs.Entries.{promoted_key}
+use Rattle.listed_files.specs.Entries.{promoted_key}
 use Rattle.build_server.specs.Books.{Table, held_for, placed, without_job}
 use Rattle.build_server.specs.Rules.{archives_after_submit}
 use Rattle.build_server.specs.declared.run.Ran.{Ran}

@@ -7,7 +7,7 @@ use Rattle.std.proofs.lemmas.Bool.{true≢false}
 use Rattle.dist_types.specs.Cause.{counted}
 use Rattle.toolchain_cache.specs.Archives.{Archives, archives_in, opened_archives, IsInStep}
 use Rattle.toolchain_cache.specs.Archiving.{ArchivesReopen}
-use Rattle.lru_disk_cache.specs.Entries.{total}
+use Rattle.listed_files.specs.Entries.{total}
 use Rattle.folders.specs.Held.{Held, Holds}
 use Rattle.lru_disk_cache.specs.Store.{OpenFails}
 use Rattle.dist_types.specs.declared.cache_error.Error.{Error}

@@ -4,7 +4,7 @@ ghost use Rattle.std.specs.Prelude.{drop, cond, ◌<◌, ◌^◌};
 ghost use Rattle.std.specs.Prelude.{IfOk, IfErr, OnOk, OnErr, MatchOption, Some, None, Ok, Err};
 ghost use Rattle.std.specs.Option.{option_map};
 ghost use Rattle.toolchain_cache.specs.Archives.{opened_archives, IsInStep};
-ghost use Rattle.lru_disk_cache.specs.Entries.{total};
+ghost use Rattle.listed_files.specs.Entries.{total};
 ghost use Rattle.folders.specs.Changed.{ButUnder};
 ghost use Rattle.folders.specs.Files.{front};
 ghost use Rattle.folders.specs.Held.{Holds, Became};

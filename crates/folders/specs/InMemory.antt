@@ -2,6 +2,7 @@
 use Rattle.std.specs.Prelude.{◌≡◌, ℕ, Bool, is_none, if◌then◌else◌, List, Option, Some, None, Result, Ok, Err}
 use Rattle.std.specs.Option.{option_map}
 use Rattle.folders.specs.Files.{Files, file_at}
+use Rattle.folders.specs.Failures.{Failures}
 use Rattle.folders.specs.Held.{Held}
 use Rattle.folders.specs.Numbers.{fails_before, fails_after, piece_fails, piece_breaks}
 use Rattle.dist_types.specs.declared.folder_fault.FolderFault.{FolderFault}
@@ -29,6 +30,10 @@ SameNumbers old new = (new.before ≡ old.before) × (new.after ≡ old.after) �
 -- what it tells
 abbrev pub folder_held : MemFolder → Held
 folder_held s = record { files = Some s.files.items; faults = s.calls.faults }
+
+-- how often its calls failed, by kind
+abbrev pub folder_failures : MemFolder → Failures
+folder_failures s = s.failures
 
 -- whether there is a file at a path, as what is found there
 abbrev pub there : Files → List ℕ → Option (Unit {0})
@@ -70,3 +75,7 @@ reliable_files s = s.files.items
 -- what it tells: that it never failed
 abbrev pub reliable_held : ReliableFolder → Held
 reliable_held s = record { files = Some s.files.items; faults = 0 }
+
+-- how often its calls failed: for want of memory alone
+abbrev pub reliable_failures : ReliableFolder → Failures
+reliable_failures s = s.failures

@@ -6,3 +6,4 @@ pub mod Numbers
 pub mod Plain
 pub mod Real
 pub mod Whole
+pub mod Failures

@@ -7,6 +7,7 @@
 #![tactic(auto)]
 
 pub mod calls;
+pub mod failure_counts;
 pub mod fault;
 pub mod folder;
 pub mod mem_folder;

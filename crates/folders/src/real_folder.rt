@@ -141,6 +141,8 @@ impl<R: Files + AllocGlobal + Clone + Drop> Folder for RealFolder<R> {
 
     ghost held = { real_held };
 
+    ghost failures = { λ f. record { renames = 0; removals = 0; memory = 0 } };
+
     fn list(&mut self, under: &str) -> Result<Vec<Found>, FolderFault> {
         match found_in_order(&self.rt, self.root.get(), under, &self.notes) {
             Ok(found) => {

@@ -6,16 +6,16 @@ use Rattle.folders.specs.Files.{Files, file_at, front, put, moved, PartWritten}
 use Rattle.folders.specs.Files.{DoneOrNot, Same}
 use Rattle.folders.specs.Held.{Held, Holds, Lacks, Never, Became, Changes}
 use Rattle.dist_types.specs.declared.folder_fault.FolderFault.{FolderFault}
-use Rattle.lru_disk_cache.specs.Key.{temp_name}
-use Rattle.lru_disk_cache.specs.Entries.{Entries}
-use Rattle.lru_disk_cache.specs.Disk.{Keeps}
+use Rattle.listed_files.specs.Key.{temp_name}
+use Rattle.listed_files.specs.Entries.{Entries}
+use Rattle.listed_files.specs.Disk.{Keeps}
 use Rattle.folders.specs.Changed.{SameBelow, SameAt, IsOutside}
 use Rattle.lru_disk_cache.specs.Reserved.{Reservation, AllReserved, AllSure, KeepsReserved}
 use Rattle.lru_disk_cache.specs.Store.{Disk, IsStore}
-use Rattle.folders.proofs.Became.{became_of, became_map, became_from, became_same}
+use Rattle.folders.proofs.Became.{became_of, became_map, became_from}
 use Rattle.folders.proofs.Distinct.{apart}
-use Rattle.lru_disk_cache.proofs.Fills.{stands_kept}
-use Rattle.lru_disk_cache.proofs.Standing.{kept_none}
+use Rattle.listed_files.proofs.Calls.{equal_became, keeps_equal}
+use Rattle.listed_files.proofs.Fills.{stands_kept}
 use Rattle.folders.proofs.Lookups.{put_other, part_other, moved_other, done_or_not}
 
 -- ---- the temporary files of reservations
@@ -103,14 +103,6 @@ below_renamed root path from to result old new is one two h =
     (λ f k. refl) moves (λ f g part k. done_or_not (moved from to) (root ++ k) f g part (moves f k)) h
 
 -- ---- the files are those that they were
-
-pub equal_became : (E : Files → Files → Type 0) (old new : Option Files) → new ≡ old
-    → ((f : Files) → E f f) → Became E old new
-equal_became E old new is same = subst (Became E old) (sym is) (became_same E old same)
-
-pub keeps_equal : (root : List ℕ) (es : Entries) (old new : Option Files) → new ≡ old
-    → Became (Keeps root es) old new
-keeps_equal root es old new is = equal_became (Keeps root es) old new is (λ f. kept_none root es f)
 
 pub reserved_equal : (ps : List Reservation) (old new : Option Files) → new ≡ old
     → Became (KeepsReserved ps) old new

@@ -8,24 +8,25 @@ use Rattle.std.specs.Option.{option_map}
 use Rattle.std.specs.Str.{bytes_eq}
 use Rattle.folders.specs.Files.{Files, file_at, put, without, touched, appended}
 use Rattle.folders.specs.Held.{Held, Became, BecameBy}
-use Rattle.lru_disk_cache.specs.Key.{is_key, temp_name, insert_name}
-use Rattle.lru_disk_cache.specs.Disk.{AllKeys, Avoids, IsInsertTemp, dropped, files_placed, files_stored, stored}
-use Rattle.lru_disk_cache.specs.Disk.{without_key}
+use Rattle.listed_files.specs.Key.{is_key, temp_name, insert_name}
+use Rattle.listed_files.specs.Disk.{AllKeys, Avoids, IsInsertTemp, dropped, files_placed, files_stored, stored}
+use Rattle.listed_files.specs.Disk.{without_key}
 use Rattle.lru_disk_cache.specs.Reserved.{Reservation, AddEntry, AllReserved, is_of, is_pending}
 use Rattle.lru_disk_cache.specs.Store.{Disk, IsStore, DiskInStep, inserted, looked_up, removed, room_beside}
 use Rattle.lru_disk_cache.specs.Store.{insert_verdict}
-use Rattle.lru_disk_cache.specs.Adding.{HasSize, entry_path, prepared, files_prepared, room_for}
+use Rattle.lru_disk_cache.specs.Adding.{HasSize, entry_path, prepared, room_for}
+use Rattle.listed_files.specs.Disk.{files_prepared}
 use Rattle.lru_disk_cache.specs.Adding.{commit_verdict, committed}
 use Rattle.lru_disk_cache.specs.Moving.{IsSized}
 use Rattle.folders.proofs.Became.{became_from}
 use Rattle.folders.proofs.Exactly.{made_is}
-use Rattle.lru_disk_cache.proofs.Fills.{temp_avoids, temp_avoided}
+use Rattle.listed_files.proofs.Fills.{temp_avoids, temp_avoided}
 use Rattle.lru_disk_cache.proofs.KeySteps.{keys_in, temp_placed, moved_placed, keys_put_other, keys_touched}
 use Rattle.lru_disk_cache.proofs.KeySteps.{keys_prepared, keys_appended, keys_gone, keys_without_other}
 use Rattle.folders.proofs.Lookups.{put_same}
-use Rattle.lru_disk_cache.proofs.Paths.{temp_is_none, insert_is_none}
+use Rattle.listed_files.proofs.Paths.{temp_is_none, insert_is_none}
 use Rattle.lru_disk_cache.proofs.Reserving.{listed_key, own_path}
-use Rattle.lru_disk_cache.proofs.Standing.{found_sized}
+use Rattle.listed_files.proofs.Standing.{found_sized}
 
 -- what a change of the files makes of the keys among them
 made_step : (f : Files → Files) (e : Disk) (old new : Held) → BecameBy f old.files new.files

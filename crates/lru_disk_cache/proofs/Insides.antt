@@ -1,6 +1,6 @@
 -- What a cache is seen as, by what it keeps.
 use Rattle.std.specs.Prelude.{ℕ, List}
-use Rattle.lru_disk_cache.specs.Entries.{Listed}
+use Rattle.listed_files.specs.Entries.{Listed}
 use Rattle.lru_disk_cache.specs.Reserved.{Reservation}
 use Rattle.lru_disk_cache.specs.Store.{Disk}
 

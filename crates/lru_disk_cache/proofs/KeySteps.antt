@@ -10,17 +10,17 @@ use Rattle.std.proofs.lemmas.List.Elements.{filter-append}
 use Rattle.std.proofs.lemmas.Slice.Eq.{bytes_eq-Decides}
 use Rattle.folders.specs.Files.{Files, file_at, put, put_found, without, touched, appended}
 use Rattle.folders.specs.Files.{is_behind}
-use Rattle.lru_disk_cache.specs.Key.{is_key}
-use Rattle.lru_disk_cache.specs.Entries.{Entries, total, trim, promoted_key}
-use Rattle.lru_disk_cache.specs.Disk.{Avoids, dropped, without_each, without_key, stored, files_placed}
-use Rattle.lru_disk_cache.specs.Opened.{listing}
+use Rattle.listed_files.specs.Key.{is_key}
+use Rattle.listed_files.specs.Entries.{Entries, total, trim, promoted_key}
+use Rattle.listed_files.specs.Disk.{Avoids, dropped, without_each, without_key, stored, files_placed}
+use Rattle.listed_files.specs.Opened.{listing}
 use Rattle.folders.proofs.Distinct.{apart}
-use Rattle.lru_disk_cache.proofs.Outs.{but_each, but_each_later, out_once, front_out, dropped_and_rest}
-use Rattle.lru_disk_cache.proofs.Outs.{rest_out, there_still, found_entry}
-use Rattle.lru_disk_cache.proofs.Listings.{entry, but_key, listing_more, listing_without, none_out}
+use Rattle.listed_files.proofs.Outs.{but_each, but_each_later, out_once, front_out, dropped_and_rest}
+use Rattle.listed_files.proofs.Outs.{rest_out, there_still, found_entry}
+use Rattle.listed_files.proofs.Listings.{entry, but_key, listing_more, listing_without, none_out}
 use Rattle.folders.proofs.Lookups.{itself}
-use Rattle.lru_disk_cache.proofs.Paths.{same_front}
-use Rattle.lru_disk_cache.proofs.Strips.{begins}
+use Rattle.listed_files.proofs.Paths.{same_front}
+use Rattle.listed_files.proofs.Strips.{begins}
 
 -- the keys among the files, with their sizes
 abbrev pub keys_in : List ℕ → Files → Entries

@@ -10,9 +10,9 @@ use Rattle.dist_types.specs.declared.cache_error.Error.TheVariants.{WrongDigest,
 use Rattle.dist_types.specs.declared.cache_error.Error.TheVariants.{Memory as NoMemory}
 use Rattle.lru_disk_cache.specs.declared.error.WriteFault.{WriteFault}
 use Rattle.lru_disk_cache.specs.Store.{Disk, insert_verdict, InsertFails}
-use Rattle.lru_disk_cache.specs.Key.{is_key}
+use Rattle.listed_files.specs.Key.{is_key}
 use Rattle.lru_disk_cache.specs.Reserved.{held_size}
-use Rattle.lru_disk_cache.specs.Adding.{CallFails}
+use Rattle.listed_files.specs.Calls.{CallFails}
 use Rattle.lru_disk_cache.specs.Moving.{MoveFails, WriterFails, WithFails}
 use Rattle.lru_disk_cache.specs.Spoiling.{MaySpoil}
 

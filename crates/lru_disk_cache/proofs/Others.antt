@@ -2,9 +2,9 @@
 use Rattle.std.proofs.Common.{◌≡◌, ℕ, ◌<◌, ◌^◌, true, List, ◌++◌, Option}
 use Rattle.folders.specs.Files.{Files}
 use Rattle.folders.specs.Held.{Became}
-use Rattle.lru_disk_cache.specs.Key.{is_key, temp_name}
-use Rattle.lru_disk_cache.specs.Entries.{Entries}
-use Rattle.lru_disk_cache.specs.Disk.{AllKeys, ButThese}
+use Rattle.listed_files.specs.Key.{is_key, temp_name}
+use Rattle.listed_files.specs.Entries.{Entries}
+use Rattle.listed_files.specs.Disk.{AllKeys, ButThese}
 use Rattle.folders.specs.Changed.{ButAt}
 use Rattle.lru_disk_cache.specs.Reserved.{Reservation, IsReserved, AllReserved, KeepsReserved, without_number}
 use Rattle.lru_disk_cache.proofs.Reserving.{at_reserved, these_reserved, none_without, all_without}

@@ -3,10 +3,10 @@ use Rattle.std.proofs.Common.{◌≡◌, ℕ, ◌≤◌, Bool, true, false, cond
 use Rattle.std.proofs.Common.{sym, ap, subst, ◌∙◌, arith, le-leb}
 use Rattle.std.proofs.lemmas.List.Sums.{sum_by-cons}
 use Rattle.folders.specs.Files.{found_behind}
-use Rattle.lru_disk_cache.specs.Key.{is_key}
-use Rattle.lru_disk_cache.specs.Entries.{Entries, total, trim}
-use Rattle.lru_disk_cache.specs.Opened.{keyed, is_kept, kept, Reopens}
-use Rattle.lru_disk_cache.proofs.Trims.{trim_fits}
+use Rattle.listed_files.specs.Key.{is_key}
+use Rattle.listed_files.specs.Entries.{Entries, total, trim}
+use Rattle.listed_files.specs.Opened.{keyed, is_kept, kept, Reopens}
+use Rattle.listed_files.proofs.Trims.{trim_fits}
 
 -- of entries whose keys all fit, those are kept that are keys
 kept_keys : (capacity : ℕ) (es : Entries) → total (filter (λ e. is_key e.0) es) ≤ capacity

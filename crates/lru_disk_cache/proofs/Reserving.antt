@@ -1,6 +1,6 @@
 -- Open reservations, and what stands behind each call on them.
 use Rattle.std.proofs.Common.{◌≡◌, ℕ, ◌+◌, ◌<◌, ◌≤◌, ◌^◌, ◌==◌, ◌&&◌, ◌||◌, ◌⊎◌, Bool, true, false, cond, not}
-use Rattle.std.proofs.Common.{is_some, List, [], ◌∷◌, ◌++◌, take, Option, Some, None, Result, Ok, Err, IfErr}
+use Rattle.std.proofs.Common.{is_some, List, [], ◌∷◌, ◌++◌, Option, Some, None, Result, Ok, Err, IfErr}
 use Rattle.std.proofs.Common.{OnOk, inl, inr, refl, sym, ap, subst, ◌∙◌, true≢false, append_assoc, arith}
 use Rattle.std.proofs.lemmas.Bool.{eqb-true, eqb-false}
 use Rattle.std.proofs.lemmas.List.Sums.{sum_by-append, sum_by-cons}
@@ -8,10 +8,10 @@ use Rattle.std.proofs.lemmas.Slice.Eq.{bytes_eq-Decides}
 use Rattle.std.proofs.lemmas.List.Splits.{slice_split-cons_yes, slice_split-cons_no}
 use Rattle.std.specs.List.{AllByRecursion, onto_first, slice_split}
 use Rattle.std.specs.Map.{lookup}
-use Rattle.std.specs.Option.{option_map}
 use Rattle.std.specs.Str.{bytes_eq}
-use Rattle.folders.specs.Files.{Files, file_at, front, put_found, appended, PartAppended, Same}
-use Rattle.folders.specs.Held.{Held, Holds, Lacks, Became, Changes}
+use Rattle.folders.specs.Files.{Files, file_at, front}
+use Rattle.folders.specs.Failures.{Failures, removal_failed}
+use Rattle.folders.specs.Held.{Held, Holds, Lacks, Became}
 use Rattle.dist_types.specs.declared.folder_fault.FolderFault.{FolderFault}
 use Rattle.dist_types.specs.declared.folder_fault.FolderFault.TheVariants.{Missing, Failed, Memory}
 use Rattle.dist_types.specs.declared.cache_error.Error.{Error}
@@ -19,23 +19,25 @@ use Rattle.dist_types.specs.declared.cache_error.Error.TheVariants.{FileTooLarge
 use Rattle.dist_types.specs.declared.cache_error.Error.TheVariants.{PendingSpace, BadKey, NotPending}
 use Rattle.dist_types.specs.declared.cache_error.Error.TheVariants.{WrongDigest, WriterRefused}
 use Rattle.dist_types.specs.declared.cache_error.Error.TheVariants.{Memory as NoMemory}
-use Rattle.lru_disk_cache.specs.Key.{is_key, is_temporary, last_behind, names_temporary, temp_name}
-use Rattle.lru_disk_cache.specs.Key.{insert_name}
-use Rattle.lru_disk_cache.specs.Entries.{Entries}
-use Rattle.lru_disk_cache.specs.Disk.{AllKeys, ButThese}
+use Rattle.listed_files.specs.Key.{is_key, is_temporary, last_behind, names_temporary, temp_name}
+use Rattle.listed_files.specs.Key.{insert_name}
+use Rattle.listed_files.specs.Entries.{Entries}
+use Rattle.listed_files.specs.Disk.{AllKeys, ButThese}
 use Rattle.folders.specs.Changed.{ButAt, Counts}
 use Rattle.lru_disk_cache.specs.Reserved.{Reservation, AddEntry, IsReserved, AllReserved, AllSure}
 use Rattle.lru_disk_cache.specs.Reserved.{KeepsReserved, NumbersDiffer, has, held_size, is_of, is_pending}
 use Rattle.lru_disk_cache.specs.Reserved.{is_sure, temp_of, without_number, doubted, unsure}
 use Rattle.lru_disk_cache.specs.Store.{Disk, IsStore}
-use Rattle.lru_disk_cache.specs.Adding.{entry_path, abandoned, abandon_answer, CallFails, WriteFails}
+use Rattle.lru_disk_cache.specs.Adding.{entry_path, abandoned, abandon_answer, WriteFails}
+use Rattle.listed_files.specs.Calls.{CallFails}
 use Rattle.lru_disk_cache.specs.Adding.{TempMissing}
 use Rattle.lru_disk_cache.specs.Adding.{AbandonFails}
-use Rattle.folders.proofs.Became.{became_map, became_of, became_same}
-use Rattle.lru_disk_cache.proofs.Fills.{temp_avoids, keeps_avoided, stands_kept}
-use Rattle.folders.proofs.Lookups.{put_same, put_other}
-use Rattle.lru_disk_cache.proofs.Paths.{same_front, temp_differs, temps_differ, temp_split, begins_so}
-use Rattle.lru_disk_cache.proofs.Paths.{kinds_differ}
+use Rattle.listed_files.specs.Told.{ToldClosed}
+use Rattle.folders.proofs.Became.{became_map, became_same}
+use Rattle.listed_files.proofs.Calls.{StaysThere}
+use Rattle.listed_files.proofs.Fills.{temp_avoids, keeps_avoided, stands_kept}
+use Rattle.listed_files.proofs.Paths.{same_front, temp_differs, temps_differ, temp_split, begins_so}
+use Rattle.listed_files.proofs.Paths.{kinds_differ}
 use Rattle.folders.proofs.Distinct.{apart}
 
 -- ---- the path of a temporary file is none else
@@ -366,75 +368,6 @@ each_same (r ∷ rs) f = (refl, each_same rs f)
 pub none_reserved : (ps : List Reservation) (o : Option Files) → Became (KeepsReserved ps) o o
 none_reserved ps o = became_same (KeepsReserved ps) o (λ f. each_same ps f)
 
--- ---- a call of the folder, as the cache tells it
-
-same_files : (o n : Option Files) → Became Same o n → n ≡ o
-same_files None n h = h
-same_files (Some f) n h = h.1 ∙ ap Some h.2
-
--- a call that changes nothing leaves the files
-pub files_left : {T : Type 0} (lacking : Files → Type 0) (result : Result T FolderFault) (old new : Held)
-    → Changes lacking (λ files. files) Same result old new → new.files ≡ old.files
-files_left lacking (Ok x) old new h = ap (λ k. k.files) h.0 ∙ by old.files
-  where
-    by : (o : Option Files) → option_map (λ files. files) o ≡ o
-    by None = refl
-    by (Some f) = refl
-files_left lacking (Err Missing) old new h = ap (λ k. k.files) h.0
-files_left lacking (Err Failed) old new h = same_files old.files new.files h.0
-files_left lacking (Err Memory) old new h = same_files old.files new.files h.0
-
--- and where it succeeds the count
-pub held_left : {T : Type 0} (lacking : Files → Type 0) (x : T) (old new : Held)
-    → (let ok : Result T FolderFault = Ok x in Changes lacking (λ files. files) Same ok old new) → new ≡ old
-held_left lacking x old new h = h.0 ∙ by old
-  where
-    by : (k : Held) → record { files = option_map (λ (files : Files). files) k.files; faults = k.faults } ≡ k
-    by k = ap (λ o. record { files = o; faults = k.faults }) (each k.files)
-      where
-        each : (o : Option Files) → option_map (λ (files : Files). files) o ≡ o
-        each None = refl
-        each (Some f) = refl
-
--- what an addition leaves
-added_by : (o : Option (List ℕ)) (p q bytes : List ℕ) (files : Files) → bytes_eq p q ≡ false
-    → file_at (put_found (option_map (λ old. old ++ bytes) o) p files files) q ≡ file_at files q
-added_by None p q bytes files other = refl
-added_by (Some b) p q bytes files other = put_other p q (b ++ bytes) files other
-
-pub added_others : {T : Type 0} (path bytes : List ℕ) (result : Result T FolderFault) (old new : Held)
-    → Changes (Lacks path) (appended path bytes) (PartAppended path bytes) result old new
-    → Became (ButAt path) old.files new.files
-added_others path bytes result old new h =
-    became_of (Lacks path) (appended path bytes) (PartAppended path bytes) (ButAt path) result old new
-    (λ f q other. refl) (λ f q other. added_by (file_at f path) path q bytes f other)
-    (λ f g part q other. elim part [
-      | inl same ↦ ap (λ l. file_at l q) same
-      | inr some ↦ ap (λ l. file_at l q) some.1 ∙ added_by (file_at f path) path q (take some.0 bytes) f other
-    ]) h
-
-there_by : (o : Option (List ℕ)) (p bytes : List ℕ) (files : Files) → file_at files p ≡ o → ¬ (Lacks p files)
-    → ¬ (Lacks p (put_found (option_map (λ old. old ++ bytes) o) p files files))
-there_by None p bytes files is there = there
-there_by (Some b) p bytes files is there = λ lacks. let both : Some (b ++ bytes) ≡ None =
-    sym (put_same p (b ++ bytes) files) ∙ lacks in absurd (true≢false (ap is_some both))
-
--- a file that was there is there still
-abbrev pub StaysThere : List ℕ → Files → Files → Type 0
-StaysThere path old new = ¬ (Lacks path old) → ¬ (Lacks path new)
-
-pub added_there : {T : Type 0} (path bytes : List ℕ) (result : Result T FolderFault) (old new : Held)
-    → Changes (Lacks path) (appended path bytes) (PartAppended path bytes) result old new
-    → Became (StaysThere path) old.files new.files
-added_there path bytes result old new h =
-    became_of (Lacks path) (appended path bytes) (PartAppended path bytes) (StaysThere path) result old new
-    (λ f there. there) (λ f there. there_by (file_at f path) path bytes f refl there)
-    (λ f g part there lacks. elim part [
-      | inl same ↦ there (ap (λ l. file_at l path) (sym same) ∙ lacks)
-      | inr some ↦ there_by (file_at f path) path (take some.0 bytes) f refl there
-          (ap (λ l. file_at l path) (sym some.1) ∙ lacks)
-    ]) h
-
 -- ---- the reservations behind an addition
 
 sure_each : (root path : List ℕ) (n : ℕ) (ps : List Reservation) (f g : Files) → path ≡ root ++ temp_name n
@@ -649,3 +582,20 @@ gives_back e (r ∷ rs) differ h = by (is_of e r) refl (r.number == e.number) re
           sum_by-cons (λ (x : Reservation). x.size) r rs,
           sum_by-cons (λ (x : Reservation). x.size) r (without_number e.number rs),
         )
+
+-- a reservation that is closed
+pub closed_told : (answer : Result (Unit {0}) FolderFault) (f g : Failures)
+    (result : Result (Unit {0}) (Error × Option AddEntry)) → result ≡ abandon_answer answer
+    → ¬ (answer ≡ Err Missing) → g ≡ removal_failed answer f → IfErr result (λ e. ToldClosed e.0 f g)
+closed_told answer f g result is other counts =
+    subst (λ r. IfErr r (λ e. ToldClosed e.0 f g)) (sym is) (by answer other counts)
+  where
+    by : (answer : Result (Unit {0}) FolderFault) → ¬ (answer ≡ Err Missing) → g ≡ removal_failed answer f
+        → IfErr (abandon_answer answer) (λ e. ToldClosed e.0 f g)
+    by (Ok x) other counts = tt
+    by (Err Missing) other counts = absurd (other refl)
+    by (Err Failed) other counts = (ap (λ c. c.renames) counts, ap (λ c. c.removals) counts)
+    by (Err Memory) other counts = (
+      (ap (λ c. c.renames) counts, ap (λ c. c.removals) counts),
+      ap (λ c. c.memory) counts,
+    )

@@ -1,18 +1,18 @@
 -- What failed inserts left of their temporary files stays, where a step takes none of these.
-use Rattle.std.proofs.Common.{◌≡◌, ℕ, ◌+◌, ◌<◌, ◌^◌, ◌==◌, Bool, true, false, List, [], ◌∷◌, ◌++◌, Option}
-use Rattle.std.proofs.Common.{refl, sym, ap, subst, ◌∙◌, true≢false, append_assoc, arith}
+use Rattle.std.proofs.Common.{◌≡◌, ℕ, ◌+◌, ◌<◌, ◌^◌, Bool, true, false, List, [], ◌∷◌, ◌++◌, Option}
+use Rattle.std.proofs.Common.{refl, sym, ap, ◌∙◌, true≢false, append_assoc}
 use Rattle.std.specs.Str.{bytes_eq}
 use Rattle.std.proofs.lemmas.Slice.Eq.{bytes_eq-Decides}
 use Rattle.folders.specs.Files.{Files, front}
 use Rattle.folders.specs.Held.{Became}
-use Rattle.folders.specs.Changed.{ButAt, SameAt}
+use Rattle.folders.specs.Changed.{ButAt}
 use Rattle.folders.proofs.Became.{became_map, became_same}
-use Rattle.lru_disk_cache.specs.Key.{is_key, is_temporary, last_behind, names_temporary, temp_name, insert_name}
-use Rattle.lru_disk_cache.specs.Entries.{Entries}
-use Rattle.lru_disk_cache.specs.Disk.{AllKeys, ButThese, ButInsert, KeepsSpoiled}
-use Rattle.lru_disk_cache.proofs.Fills.{temp_avoided}
-use Rattle.lru_disk_cache.proofs.Paths.{same_front, insert_split, insert_begins_so, insert_is_none, none_differs}
-use Rattle.lru_disk_cache.proofs.Paths.{inserts_differ, kinds_differ}
+use Rattle.listed_files.specs.Key.{is_key, is_temporary, last_behind, names_temporary, temp_name, insert_name}
+use Rattle.listed_files.specs.Entries.{Entries}
+use Rattle.listed_files.specs.Disk.{AllKeys, ButThese, ButInsert, KeepsSpoiled}
+use Rattle.listed_files.proofs.Fills.{temp_avoided}
+use Rattle.listed_files.proofs.Paths.{same_front, insert_split, insert_begins_so, insert_is_none, none_differs}
+use Rattle.listed_files.proofs.Paths.{inserts_differ, kinds_differ}
 use Rattle.lru_disk_cache.proofs.Reserving.{cut, last_is}
 
 -- no insert of a lower number has this path

@@ -9,22 +9,22 @@ use Rattle.lru_metered.proofs.Lookups.{size-others, total-promoted}
 use Rattle.folders.specs.Files.{file_at}
 use Rattle.folders.specs.Held.{Held, Holds, Became, BecameBy}
 use Rattle.dist_types.specs.declared.folder_fault.FolderFault.{FolderFault}
-use Rattle.lru_disk_cache.specs.Entries.{Entries, Listed, total, sizes, promoted_key, IsEnd}
-use Rattle.lru_disk_cache.specs.Disk.{Stands, IsInsertTemp, Left, staying, stored, dropped}
+use Rattle.listed_files.specs.Entries.{Entries, Listed, total, sizes, promoted_key, IsEnd}
+use Rattle.listed_files.specs.Disk.{Stands, IsInsertTemp, Left, staying, stored, dropped}
 use Rattle.folders.specs.Changed.{ButAt, SameAt}
-use Rattle.lru_disk_cache.specs.Disk.{files_stored, without_key}
-use Rattle.lru_disk_cache.specs.Key.{is_key, temp_name}
+use Rattle.listed_files.specs.Disk.{files_stored, without_key}
+use Rattle.listed_files.specs.Key.{is_key, temp_name}
 use Rattle.lru_disk_cache.specs.Reserved.{Reservation, IsReserved, AllSure, KeepsReserved, has, held_size}
 use Rattle.lru_disk_cache.specs.Reserved.{without_number, unsure}
 use Rattle.lru_disk_cache.specs.Store.{Disk, Store, IsStore, room_beside}
 use Rattle.lru_disk_cache.proofs.Asides.{sure_kept, reserved_same}
 use Rattle.folders.proofs.Became.{became_map, became_from}
-use Rattle.lru_disk_cache.proofs.Opens.{trim_within}
+use Rattle.listed_files.proofs.Opens.{trim_within}
 use Rattle.lru_disk_cache.proofs.Reserving.{listed_key, key_reserved, all_without, differ_without}
 use Rattle.lru_disk_cache.proofs.Reserving.{unsure_reserved, unsure_differ, unsure_held, unsure_sure}
 use Rattle.lru_disk_cache.proofs.Reserving.{all_more, held_more, differ_more}
-use Rattle.lru_disk_cache.proofs.Standing.{stands_promoted, stands_absent, stands_removed}
-use Rattle.lru_disk_cache.proofs.Trims.{total_more}
+use Rattle.listed_files.proofs.Standing.{stands_promoted, stands_absent, stands_removed}
+use Rattle.listed_files.proofs.Trims.{total_more}
 
 module _ (path root : List ℕ) (pending : List Reservation) where
   -- the disk of a list

@@ -2,7 +2,7 @@
 use Rattle.std.specs.Prelude.{◌≡◌, ℕ, ◌+◌, ◌-◌, ◌⊎◌, true, false, nat_lt, if◌then◌else◌, List, [], ◌∷◌, ◌++◌}
 use Rattle.std.specs.Prelude.{None, Option, Some, Result, Ok, Err}
 use Rattle.dist_types.specs.Cause.{Rose}
-use Rattle.folders.specs.Files.{Files, size_at, put}
+use Rattle.folders.specs.Files.{size_at}
 use Rattle.folders.specs.Held.{Held, Holds, Lacks}
 use Rattle.dist_types.specs.CacheError.{error_of}
 use Rattle.dist_types.specs.declared.folder_fault.FolderFault.{FolderFault}
@@ -12,9 +12,9 @@ use Rattle.dist_types.specs.declared.cache_error.Error.TheVariants.{FileTooLarge
 use Rattle.dist_types.specs.declared.cache_error.Error.TheVariants.{PendingSpace, BadKey, NotPending}
 use Rattle.dist_types.specs.declared.cache_error.Error.TheVariants.{WrongDigest, WriterRefused}
 use Rattle.dist_types.specs.declared.cache_error.Error.TheVariants.{Memory as NoMemory}
-use Rattle.lru_disk_cache.specs.Key.{temp_name}
-use Rattle.lru_disk_cache.specs.Entries.{Entries, trim, IsEnd}
-use Rattle.lru_disk_cache.specs.Disk.{Left, stored, without_each}
+use Rattle.listed_files.specs.Key.{temp_name}
+use Rattle.listed_files.specs.Entries.{trim, IsEnd}
+use Rattle.listed_files.specs.Disk.{Left, stored}
 use Rattle.lru_disk_cache.specs.Reserved.{Reservation, AddEntry, held_size, is_pending, is_sure}
 use Rattle.lru_disk_cache.specs.Reserved.{without_number, unsure}
 use Rattle.lru_disk_cache.specs.Store.{Disk, room_beside, insert_verdict, Refuses, IoCause}
@@ -35,10 +35,6 @@ prepared d e = record d {
   entries = trim (room_beside d e.size) d.entries;
   pending = d.pending ++ reservation d e ∷ [];
 }
-
--- the files once it is: that file is there with no byte, and those of these entries are gone
-abbrev pub files_prepared : List ℕ → List ℕ → Entries → Files → Files
-files_prepared root temp gone files = without_each root gone (put temp [] files)
 
 -- what a failed announcement leaves: some of the least recent gone, none more than had to go
 pub record RoomBy (limit : ℕ) (old new : Disk) : Type 0 where
@@ -61,24 +57,6 @@ PrepareFails key size WrongDigest d e old new = ⊥
 PrepareFails key size WriterRefused d e old new = ⊥
 
 -- ---- it is used
-
--- why the folder failed: the count rose, or there was no file for the call, which leaves all
-abbrev pub CallCause : (Files → Type 0) → FolderFault → Held → Held → Type 0
-CallCause lacking Failed old new = Rose old.faults new.faults
-CallCause lacking Missing old new = (new ≡ old) × Holds old lacking
-CallCause lacking Memory old new = ⊥
-
--- why a call of it failed
-abbrev pub CallFails : (Files → Type 0) → Error → Held → Held → Type 0
-CallFails lacking (Io fault) old new = CallCause lacking fault old new
-CallFails lacking NoMemory old new = Unit {0}
-CallFails lacking BadKey old new = ⊥
-CallFails lacking FileTooLarge old new = ⊥
-CallFails lacking FileNotInCache old new = ⊥
-CallFails lacking PendingSpace old new = ⊥
-CallFails lacking NotPending old new = ⊥
-CallFails lacking WrongDigest old new = ⊥
-CallFails lacking WriterRefused old new = ⊥
 
 -- the temporary file of an entry was not sure to be there, and is not, which leaves all
 abbrev pub TempMissing : AddEntry → Disk → Disk → Held → Held → Type 0

@@ -1,11 +1,7 @@
-pub mod Entries
-pub mod Key
-pub mod Disk
-pub mod Store
-pub mod Opened
-pub mod Reserved
-pub mod Reliable
 pub mod Adding
 pub mod Moving
 pub mod Read
+pub mod Reliable
+pub mod Reserved
 pub mod Spoiling
+pub mod Store

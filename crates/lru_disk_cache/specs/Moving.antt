@@ -14,7 +14,7 @@ use Rattle.dist_types.specs.declared.cache_error.Error.TheVariants.{WrongDigest,
 use Rattle.dist_types.specs.declared.cache_error.Error.TheVariants.{Memory as NoMemory}
 use Rattle.lru_disk_cache.specs.declared.error.WriteFault.{WriteFault}
 use Rattle.lru_disk_cache.specs.declared.error.WriteFault.TheVariants.{Refused}
-use Rattle.lru_disk_cache.specs.Key.{is_key}
+use Rattle.listed_files.specs.Key.{is_key}
 use Rattle.lru_disk_cache.specs.Store.{Disk, LeftBy, room_beside, insert_verdict, InsertFails}
 
 -- ---- a file of the folder
@@ -63,6 +63,10 @@ abbrev pub Wrote : {W V : Type 0} → Once W (MutBor V × Unit {0}) (Result (Uni
 Wrote {W} {V} call seen closure answer bytes =
     (empty filled : V) × FnOnceReturnsAtMut call closure empty answer filled × (seen empty ≡ [])
     × (seen filled ≡ bytes)
+
+-- it wrote bytes of this size
+abbrev pub WroteSize : (Result (Unit {0}) WriteFault → List ℕ → Type 0) → ℕ → Type 0
+WroteSize wrote n = (bytes : List ℕ) × wrote (Ok (tt {0})) bytes × (length bytes ≡ n)
 
 -- why a closure wrote nothing that is to be stored
 abbrev pub WriterFails : (Result (Unit {0}) WriteFault → List ℕ → Type 0) → Error → Type 0

@@ -5,7 +5,7 @@ use Rattle.std.specs.List.{list_any, AllByRecursion}
 use Rattle.std.specs.Str.{bytes_eq}
 use Rattle.folders.specs.Files.{Files, file_at}
 use Rattle.folders.specs.Held.{Lacks}
-use Rattle.lru_disk_cache.specs.Key.{is_key, temp_name}
+use Rattle.listed_files.specs.Key.{is_key, temp_name}
 
 -- What a cache keeps of an entry that is being added: a number, a key, the size announced, the path of its
 -- temporary file, and whether that is sure to be there: no commit of it failed in a call of the folder or for

@@ -13,10 +13,10 @@ use Rattle.dist_types.specs.declared.cache_error.Error.TheVariants.{FileTooLarge
 use Rattle.dist_types.specs.declared.cache_error.Error.TheVariants.{PendingSpace, BadKey, NotPending}
 use Rattle.dist_types.specs.declared.cache_error.Error.TheVariants.{WrongDigest, WriterRefused}
 use Rattle.dist_types.specs.declared.cache_error.Error.TheVariants.{Memory as NoMemory}
-use Rattle.lru_disk_cache.specs.Key.{is_key}
-use Rattle.lru_disk_cache.specs.Entries.{Entries, total, promoted_key}
-use Rattle.lru_disk_cache.specs.Opened.{opened, InStep}
-use Rattle.lru_disk_cache.specs.Disk.{Stands, Turns, TurnsBy, stored, Left, without_key}
+use Rattle.listed_files.specs.Key.{is_key}
+use Rattle.listed_files.specs.Entries.{Entries, total, promoted_key}
+use Rattle.listed_files.specs.Opened.{opened, InStep}
+use Rattle.listed_files.specs.Disk.{Stands, Turns, TurnsBy, stored, Left, without_key}
 use Rattle.lru_disk_cache.specs.Reserved.{Reservation, held_size, AllReserved, NumbersDiffer, AllSure}
 
 -- The path of a cache and what the path of each of its files begins with, its capacity, its keys with sizes,
@@ -78,10 +78,6 @@ abbrev pub IoCause : FolderFault → Held → Held → Type 0
 IoCause Failed old new = Rose old.faults new.faults
 IoCause Missing old new = old.files ≡ None
 IoCause Memory old new = ⊥
-
--- want of memory leaves the count of faults as it was
-abbrev pub Uncounted : Error → Held → Held → Type 0
-Uncounted error old new = error ≡ NoMemory → new.faults ≡ old.faults
 
 -- whether a key may be stored with a size
 abbrev pub insert_verdict : Disk → List ℕ → ℕ → Result (Unit {0}) Error

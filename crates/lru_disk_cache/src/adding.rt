@@ -2,30 +2,34 @@
 ghost use Rattle.std.specs.Prelude.{◌≡◌, ◌+◌, ◌++◌, ◌≤◌, ◌⊎◌, [], true, Some, Ok, Err, IfOk, IfErr, OnOk};
 ghost use Rattle.std.specs.Prelude.{OnErr};
 ghost use Rattle.folders.specs.Files.{file_at, without, appended, PartAppended};
+ghost use Rattle.folders.specs.Failures.{WhereTold};
 ghost use Rattle.folders.specs.Held.{Holds, Lacks};
-ghost use Rattle.lru_disk_cache.specs.Key.{is_key};
+ghost use Rattle.listed_files.specs.Key.{is_key};
 ghost use Rattle.folders.specs.Changed.{RemovedOrSame, IsNeither, OnlyRemoved};
-ghost use Rattle.lru_disk_cache.specs.Disk.{IsNoTemp};
+ghost use Rattle.listed_files.specs.Disk.{IsNoTemp};
 ghost use Rattle.folders.specs.Changed.{ButAt, ButUnder};
-ghost use Rattle.lru_disk_cache.specs.Disk.{Keeps, KeepsSpoiled, dropped, files_placed, without_key};
+ghost use Rattle.listed_files.specs.Disk.{Keeps, KeepsSpoiled, dropped, files_placed, without_key};
 ghost use Rattle.lru_disk_cache.specs.Reserved.{held_size, is_pending, without_number, IsLeastFree};
 ghost use Rattle.lru_disk_cache.specs.Reserved.{KeepsReserved};
 ghost use Rattle.folders.specs.Whole.{OldOrMoved};
-ghost use Rattle.lru_disk_cache.specs.Adding.{entry_path, prepared, files_prepared, held_beside, room_for};
+ghost use Rattle.lru_disk_cache.specs.Adding.{entry_path, prepared, held_beside, room_for};
+ghost use Rattle.listed_files.specs.Disk.{files_prepared};
 ghost use Rattle.lru_disk_cache.specs.Adding.{commit_verdict, committed, abandoned, abandon_answer, HasSize};
+ghost use Rattle.listed_files.specs.Told.{ToldCall, ToldSized, ToldClosed};
 ghost use Rattle.lru_disk_cache.specs.Adding.{PrepareFails, WriteFails, CommitFails, AbandonFails};
 
 use crate::cache::{LruDiskCache, arrival_of};
 use crate::entry::LruDiskCacheAddEntry;
 use crate::error::{Error, Result, io};
-use crate::storing::{add_to, announce, fill, measure, remove_at};
 use dist_types::text::Text;
 use folders::fault::FolderFault;
 use folders::folder::Folder;
+use listed_files::storing::{add_to, announce, fill, measure, remove_at};
 
 impl<F: Folder> LruDiskCache<F> {
     ghost use Rattle.lru_disk_cache.specs.Store.{KeepsInStep, Leaves, Makes};
-    ghost use Rattle.lru_disk_cache.specs.Store.{IsStore, room_beside, insert_verdict, Uncounted};
+    ghost use Rattle.lru_disk_cache.specs.Store.{IsStore, room_beside, insert_verdict};
+    ghost use Rattle.listed_files.specs.Calls.{Uncounted};
 
     /// Announces a file of this size under a key: the least recent go until it fits, and its size is held
     /// until it is committed or abandoned. Its temporary file is empty.
@@ -33,7 +37,7 @@ impl<F: Folder> LruDiskCache<F> {
     /// Refused as `Error::BadKey`, `Error::FileTooLarge` and `Error::PendingSpace`, in this order, which
     /// leave all as it was; then as `Error::Io` or for want of memory, which leave the list as it was, or
     /// some of the least recent gone, none more than had to go.
-    #[tactic(auto, using(crate::proofs::Spared::all_same))]
+    #[tactic(auto, using(listed_files::proofs::Spared::all_same))]
     pub fn prepare_add(&mut self, key: &str, size: u64) -> Result<LruDiskCacheAddEntry>
         ensures ok { IfOk result (λ e. self.new.disk ≡ prepared self.old.disk e) }
         ensures entry { IfOk result (λ e. (e.key ≡ key.now) × (e.size ≡ size)
@@ -90,7 +94,7 @@ impl<F: Folder> LruDiskCache<F> {
     /// number, key and size, which leaves all as it was; then as `Error::Io` or for want of memory, which
     /// leave a front of the bytes added. Where files are told, `FolderFault::Missing` comes exactly where a
     /// commit of the entry failed before and its file is not there any more, which leaves all as it was.
-    #[tactic(auto, using(crate::proofs::Standing::none_lost, crate::proofs::Reserving::none_reserved, crate::proofs::Spoiled::none_spoiled))]
+    #[tactic(auto, using(listed_files::proofs::Standing::none_lost, crate::proofs::Reserving::none_reserved, crate::proofs::Spoiled::none_spoiled))]
     pub fn write_entry(&mut self, entry: &LruDiskCacheAddEntry, bytes: &[u8]) -> Result<()>
         ensures ok { OnOk result (Makes F.held (appended (entry_path self.old.disk entry.now) bytes.now)
             self.old self.new) }
@@ -129,7 +133,8 @@ impl<F: Folder> LruDiskCache<F> {
     /// this cache has no open reservation with the entry's number, key and size), `Error::FileTooLarge` and
     /// `Error::PendingSpace`, in this order, which leave all as it was; and as `Error::Io` or for want of
     /// memory, which leave the list as it was, or the key out and some of the least recent gone, none more
-    /// than had to go. The file of the key is as it was or has all the bytes of the temporary file. Where
+    /// than had to go; where files are told the folder's counts tell which, as for `insert_bytes`. The file
+    /// of the key is as it was or has all the bytes of the temporary file. Where
     /// files are told, `FolderFault::Missing` comes exactly where a commit of the entry failed before and its
     /// file is not there any more, which leaves all as it was; where it is there, the commit may be tried
     /// again.
@@ -151,6 +156,10 @@ impl<F: Folder> LruDiskCache<F> {
         ensures fails { IfErr result
             (λ e. CommitFails entry e.0 self.old.disk self.new.disk (F.held self.old.folder)
             (F.held self.new.folder)) }
+        ensures failed { WhereTold (F.held self.old.folder) (ToldSized result entry.key (room_for
+            self.old.disk entry) (HasSize self.old.disk entry (F.held self.old.folder))
+            self.old.disk.entries self.new.disk.entries (F.failures self.old.folder)
+            (F.failures self.new.folder)) }
         ensures kept { OnErr result (Leaves F.held (Keeps self.old.disk.root self.new.disk.entries) self.old
             self.new) }
         ensures reserved { Leaves F.held (KeepsReserved (without_number entry.number self.old.disk.pending))
@@ -181,8 +190,9 @@ impl<F: Folder> LruDiskCache<F> {
     ///
     /// Refused as `Error::NotPending` exactly where this cache has no open reservation with the entry's
     /// number, key and size, which leaves all as it was and alone hands the entry back; and as `Error::Io`
-    /// or for want of the folder's memory, which leave the reservation closed.
-    #[tactic(auto, using(folders::proofs::Exactly::none_removed, crate::proofs::Standing::none_lost, crate::proofs::Reserving::none_reserved, crate::proofs::Spoiled::none_spoiled))]
+    /// or for want of the folder's memory, where its removal of the file failed, which leave the reservation
+    /// closed.
+    #[tactic(auto, using(folders::proofs::Exactly::none_removed, listed_files::proofs::Standing::none_lost, crate::proofs::Reserving::none_reserved, crate::proofs::Spoiled::none_spoiled))]
     pub fn abandon(
         &mut self,
         entry: LruDiskCacheAddEntry,
@@ -195,6 +205,8 @@ impl<F: Folder> LruDiskCache<F> {
         ensures fails { IfErr result
             (λ e. AbandonFails entry e.0 e.1 self.old.disk self.new.disk (F.held self.old.folder)
             (F.held self.new.folder)) }
+        ensures failed { WhereTold (F.held self.old.folder) (IfErr result (λ e. ToldClosed e.0
+            (F.failures self.old.folder) (F.failures self.new.folder))) }
         ensures removed { Leaves F.held OnlyRemoved self.old self.new }
         ensures others { Leaves F.held (ButAt (entry_path self.old.disk entry)) self.old self.new }
         ensures kept { Leaves F.held (Keeps self.old.disk.root self.old.disk.entries) self.old self.new }
@@ -234,6 +246,8 @@ impl<F: Folder> LruDiskCache<F> {
         ensures uncounted { IfErr result
             (λ e. Uncounted e (F.held self.old.folder) (F.held self.new.folder)) }
         ensures later { (F.held self.old.folder).faults ≤ (F.held self.new.folder).faults }
+        ensures failed { WhereTold (F.held self.old.folder) (ToldCall result (F.failures self.old.folder)
+            (F.failures self.new.folder)) }
     {
         let Some(temp) = self.pending.temp_of(entry) else {
             return Err(Error::NotPending);
@@ -272,7 +286,7 @@ impl<F: Folder> LruDiskCache<F> {
     }
 
     // What a commit does, but for spending the entry.
-    #[tactic(auto, using(crate::proofs::Spared::all_same, crate::proofs::Standing::none_lost, crate::proofs::Reserving::none_reserved, crate::proofs::Spoiled::none_spoiled))]
+    #[tactic(auto, using(listed_files::proofs::Spared::all_same, listed_files::proofs::Standing::none_lost, crate::proofs::Reserving::none_reserved, crate::proofs::Spoiled::none_spoiled))]
     fn commit_entry(&mut self, entry: &LruDiskCacheAddEntry) -> Result<()>
         ensures ok { OnOk result ((n : _) × HasSize self.old.disk entry.now (F.held self.old.folder) n ×
             (commit_verdict self.old.disk entry.now n ≡ Ok tt) × (self.new.disk ≡ committed self.old.disk
@@ -287,6 +301,10 @@ impl<F: Folder> LruDiskCache<F> {
         ensures fails { IfErr result
             (λ e. CommitFails entry.now e self.old.disk self.new.disk (F.held self.old.folder)
             (F.held self.new.folder)) }
+        ensures failed { WhereTold (F.held self.old.folder) (ToldSized result entry.now.key (room_for
+            self.old.disk entry.now) (HasSize self.old.disk entry.now (F.held self.old.folder))
+            self.old.disk.entries self.new.disk.entries (F.failures self.old.folder)
+            (F.failures self.new.folder)) }
         ensures kept { OnErr result (Leaves F.held (Keeps self.old.disk.root self.new.disk.entries) self.old
             self.new) }
         ensures reserved { Leaves F.held (KeepsReserved (without_number entry.now.number

@@ -1,18 +1,21 @@
 //! Files that are kept beside a cache, in its folder.
 ghost use Rattle.std.specs.Prelude.{◌≡◌, ◌≤◌, Some, IfOk, IfErr, OnOk};
-ghost use Rattle.lru_disk_cache.specs.Adding.{CallFails};
+ghost use Rattle.listed_files.specs.Calls.{CallFails};
 ghost use Rattle.folders.specs.Files.{file_at, size_at, put, moved, PartWritten, DoneOrNot, Same};
+ghost use Rattle.folders.specs.Failures.{WhereTold};
 ghost use Rattle.folders.specs.Held.{Holds, Lacks, Never, Changes};
+ghost use Rattle.listed_files.specs.Told.{ToldCall};
 ghost use Rattle.folders.specs.Changed.{IsOutside};
 
 use crate::cache::LruDiskCache;
 use crate::error;
-use crate::storing::measure;
 use folders::fault::FolderFault;
 use folders::folder::Folder;
+use listed_files::storing::measure;
 
 impl<F: Folder> LruDiskCache<F> {
-    ghost use Rattle.lru_disk_cache.specs.Store.{IsStore, Uncounted};
+    ghost use Rattle.lru_disk_cache.specs.Store.{IsStore};
+    ghost use Rattle.listed_files.specs.Calls.{Uncounted};
 
     /// The content of a file of the folder. The cache stays as it is.
     pub fn read_aside(&mut self, path: &str) -> Result<Vec<u8>, FolderFault>
@@ -38,6 +41,8 @@ impl<F: Folder> LruDiskCache<F> {
         ensures uncounted { IfErr result
             (λ e. Uncounted e (F.held self.old.folder) (F.held self.new.folder)) }
         ensures later { (F.held self.old.folder).faults ≤ (F.held self.new.folder).faults }
+        ensures failed { WhereTold (F.held self.old.folder) (ToldCall result (F.failures self.old.folder)
+            (F.failures self.new.folder)) }
         ensures disk { self.new.disk ≡ self.old.disk }
         ensures unspoiled { self.new.spoiled ≡ self.old.spoiled }
         ensures stands { IsStore (F.held self.new.folder) self.new.disk }

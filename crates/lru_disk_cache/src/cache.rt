@@ -6,31 +6,33 @@ ghost use Rattle.std.specs.List.{IsDistinct};
 ghost use Rattle.std.specs.Map.{keys_of, lookup};
 ghost use Rattle.std.specs.Str.{bytes_eq};
 ghost use Rattle.folders.specs.Files.{file_at, front, touched, without};
+ghost use Rattle.folders.specs.Failures.{WhereTold};
 ghost use Rattle.folders.specs.Held.{Holds, Became, Lacks};
-ghost use Rattle.lru_disk_cache.specs.Key.{is_key, temp_name, insert_name};
-ghost use Rattle.lru_disk_cache.specs.Entries.{total, IsTable};
-ghost use Rattle.lru_disk_cache.specs.Opened.{InStep, Shows, KeepsOpened};
+ghost use Rattle.listed_files.specs.Key.{is_key, temp_name, insert_name};
+ghost use Rattle.listed_files.specs.Entries.{total, IsTable};
+ghost use Rattle.listed_files.specs.Opened.{InStep, Shows, KeepsOpened};
 ghost use Rattle.folders.specs.Changed.{RemovedOrSame};
-ghost use Rattle.lru_disk_cache.specs.Disk.{IsBeside};
-ghost use Rattle.lru_disk_cache.specs.Disk.{Stands, IsTemp, IsInsertTemp, IsKeyless, Keeps, KeepsSpoiled};
-ghost use Rattle.lru_disk_cache.specs.Disk.{staying, dropped, ButInsert};
+ghost use Rattle.listed_files.specs.Disk.{IsBeside};
+ghost use Rattle.listed_files.specs.Disk.{Stands, IsTemp, IsInsertTemp, IsKeyless, Keeps, KeepsSpoiled};
+ghost use Rattle.listed_files.specs.Disk.{staying, dropped, ButInsert};
 ghost use Rattle.folders.specs.Changed.{ButAt, ButUnder, SameAt};
-ghost use Rattle.lru_disk_cache.specs.Disk.{files_stored, without_key};
+ghost use Rattle.listed_files.specs.Disk.{files_stored, without_key};
 ghost use Rattle.folders.specs.Changed.{OnlyRemoved, RemovedUnder};
 ghost use Rattle.lru_disk_cache.specs.Reserved.{held_size, KeepsReserved};
 ghost use Rattle.folders.specs.Whole.{OldOr};
+ghost use Rattle.listed_files.specs.Told.{ToldStored};
 
 use crate::error::{Error, Result, io};
-use crate::key::{insert_path, is_key, path_of, temp_path};
-use crate::opening::open;
 use crate::reservations::Reservations;
-use crate::storing::{Arrival, fetch, remove_file, store};
-use crate::table::Table;
 use dist_types::fault::raise;
 use dist_types::text::Text;
 use folders::fault::FolderFault;
 use folders::folder::Folder;
 use folders::paths::front_of;
+use listed_files::key::{insert_path, is_key, path_of, temp_path};
+use listed_files::opening::open;
+use listed_files::storing::{Arrival, fetch, remove_file, store};
+use listed_files::table::Table;
 use lru_metered::Iter;
 use std::alloc::{AllocError, Global};
 use std::marker::Model;
@@ -79,7 +81,8 @@ impl<F: Folder> LruDiskCache<F> {
     ghost use Rattle.lru_disk_cache.specs.Store.{KeepsInStep, Leaves, Makes};
     ghost use Rattle.lru_disk_cache.specs.Store.{IsStore, inserted, looked_up, removed};
     ghost use Rattle.lru_disk_cache.specs.Store.{opened_disk, insert_verdict, room_beside, OpenFails};
-    ghost use Rattle.lru_disk_cache.specs.Store.{InsertFails, LookUpFails, RemoveFails, Uncounted};
+    ghost use Rattle.lru_disk_cache.specs.Store.{InsertFails, LookUpFails, RemoveFails};
+    ghost use Rattle.listed_files.specs.Calls.{Uncounted};
     ghost use Rattle.lru_disk_cache.specs.Store.{Spoils};
 
     /// Opens a cache of `size` bytes of the files below a path. Those are removed that are no key's or larger
@@ -117,15 +120,19 @@ impl<F: Folder> LruDiskCache<F> {
             return Err((Error::Memory, folder));
         };
         match open(&mut folder, &path, &root, size) {
-            Ok(table) => Ok(LruDiskCache {
-                alloc,
-                folder,
-                path,
-                root,
-                table,
-                pending: Reservations::new(alloc),
-                spoiled: 0,
-            }),
+            Ok(table) => {
+                // The size is what says that the files fit.
+                let _size = table.size();
+                Ok(LruDiskCache {
+                    alloc,
+                    folder,
+                    path,
+                    root,
+                    table,
+                    pending: Reservations::new(alloc),
+                    spoiled: 0,
+                })
+            }
             Err(fault) => Err((io(fault), folder)),
         }
     }
@@ -213,10 +220,13 @@ impl<F: Folder> LruDiskCache<F> {
     ///
     /// Refused as `Error::BadKey`, `Error::FileTooLarge` and `Error::PendingSpace`, in this order, which
     /// leave all as it was; then as `Error::Io` or for want of memory, which leave the list as it was, or
-    /// the key out and some of the least recent gone, none more than had to go. The file of the key is as
-    /// it was or has all the bytes, never a part of them. What was written of the temporary file stays until
+    /// the key out and some of the least recent gone, none more than had to go. Where files are told the
+    /// folder's counts tell which: the list is as it was where neither a rename nor a removal failed; where
+    /// a removal did the least recent are gone up to that whose file it was, and where the rename did all
+    /// that had to go. The file of the key is as it was or has all the bytes, never a part of them. What was
+    /// written of the temporary file stays until
     /// the next opening, counts for no size, and is touched by no call before that.
-    #[tactic(auto, using(crate::proofs::Spared::all_same, crate::proofs::Spoiled::none_inserted))]
+    #[tactic(auto, using(listed_files::proofs::Spared::all_same, crate::proofs::Spoiled::none_inserted))]
     pub fn insert_bytes(&mut self, key: &str, bytes: &[u8]) -> Result<()>
         ensures ok { OnOk result (self.new.disk ≡ inserted self.old.disk key.now (length bytes.now)) }
         ensures admits { OnOk result (insert_verdict self.old.disk key.now (length bytes.now) ≡ Ok tt) }
@@ -227,6 +237,9 @@ impl<F: Folder> LruDiskCache<F> {
         ensures fails { IfErr result
             (λ e. InsertFails key.now (length bytes.now) e self.old.disk self.new.disk
             (F.held self.old.folder) (F.held self.new.folder)) }
+        ensures failed { WhereTold (F.held self.old.folder) (ToldStored result key.now (room_beside
+            self.old.disk (length bytes.now)) self.old.disk.entries self.new.disk.entries
+            (F.failures self.old.folder) (F.failures self.new.folder)) }
         ensures kept { OnOk result (Leaves F.held (Keeps self.old.disk.root (staying key.now (room_beside
             self.old.disk (length bytes.now)) self.old.disk.entries)) self.old self.new) }
         ensures left { OnErr result (Leaves F.held (Keeps self.old.disk.root self.new.disk.entries) self.old
@@ -321,7 +334,7 @@ impl<F: Folder> LruDiskCache<F> {
     ///
     /// Refused as `Error::Io`, only where the key is listed, which leaves it out, and for want of memory,
     /// only where it is, which leaves the list as it was, or the key out.
-    #[tactic(auto, using(folders::proofs::Exactly::none_removed, crate::proofs::Standing::none_lost, crate::proofs::Reserving::none_reserved, crate::proofs::Spoiled::none_spoiled))]
+    #[tactic(auto, using(folders::proofs::Exactly::none_removed, listed_files::proofs::Standing::none_lost, crate::proofs::Reserving::none_reserved, crate::proofs::Spoiled::none_spoiled))]
     pub fn remove(&mut self, key: &str) -> Result<()>
         ensures ok { OnOk result (self.new.disk ≡ removed self.old.disk key.now) }
         ensures gone { OnOk result (IsSome (lookup (bytes_eq key.now) self.old.disk.entries)
@@ -430,7 +443,7 @@ pub fn place_of(alloc: Global, path: &str) -> std::result::Result<(Text, Text), 
 }
 
 /// A file that is to stand under a key, by way of the temporary file of a reservation, by its number.
-#[tactic(auto, using(crate::proofs::Paths::temp_keyless))]
+#[tactic(auto, using(listed_files::proofs::Paths::temp_keyless))]
 pub(crate) fn arrival_of(
     root: &Text,
     number: u64,
@@ -450,7 +463,7 @@ pub(crate) fn arrival_of(
 }
 
 /// A file that is to stand under a key, by way of the temporary file of an insert, by its number.
-#[tactic(auto, using(crate::proofs::Paths::insert_keyless))]
+#[tactic(auto, using(listed_files::proofs::Paths::insert_keyless))]
 fn insert_arrival(
     root: &Text,
     number: u64,

@@ -1,5 +1,5 @@
 //! Laws of disk caches. The functions do nothing.
-ghost use Rattle.lru_disk_cache.specs.Opened.{Reopens};
+ghost use Rattle.listed_files.specs.Opened.{Reopens};
 ghost use Rattle.lru_disk_cache.specs.Reliable.{NeverFails, FailsToMove, FailsUnsure};
 ghost use Rattle.lru_disk_cache.specs.Reserved.{GivesBack};
 

@@ -6,30 +6,33 @@ ghost use Rattle.std.specs.Map.{lookup};
 ghost use Rattle.std.specs.Option.{option_map};
 ghost use Rattle.std.specs.Str.{bytes_eq};
 ghost use Rattle.folders.specs.Files.{file_at, touched};
+ghost use Rattle.folders.specs.Failures.{WhereTold};
 ghost use Rattle.folders.specs.Held.{Holds};
-ghost use Rattle.lru_disk_cache.specs.Key.{names_temporary};
+ghost use Rattle.listed_files.specs.Key.{names_temporary};
 ghost use Rattle.folders.specs.Changed.{RemovedOrSame, IsNeither};
-ghost use Rattle.lru_disk_cache.specs.Disk.{IsBeside};
-ghost use Rattle.lru_disk_cache.specs.Disk.{Avoids, ButInsert, Keeps, KeepsSpoiled, dropped};
+ghost use Rattle.listed_files.specs.Disk.{IsBeside};
+ghost use Rattle.listed_files.specs.Disk.{Avoids, ButInsert, Keeps, KeepsSpoiled, dropped};
 ghost use Rattle.folders.specs.Changed.{ButUnderAnd, ButUnder, SameAt};
-ghost use Rattle.lru_disk_cache.specs.Disk.{files_placed, without_key};
+ghost use Rattle.listed_files.specs.Disk.{files_placed, without_key};
 ghost use Rattle.lru_disk_cache.specs.Reserved.{KeepsReserved};
 ghost use Rattle.folders.specs.Whole.{OldOrMoved, OldOrWritten};
-ghost use Rattle.lru_disk_cache.specs.Moving.{IsSized, MoveFails, Wrote, WriterFails, WithFails};
+ghost use Rattle.lru_disk_cache.specs.Moving.{IsSized, MoveFails, Wrote, WroteSize, WriterFails, WithFails};
+ghost use Rattle.listed_files.specs.Told.{ToldSized};
 
 use crate::cache::{LruDiskCache, arrival_from};
 use crate::error::{Error, Result, WriteFault, io};
-use crate::key::{is_key, path_of};
 use crate::reading::Opened;
-use crate::storing::move_in;
 use dist_types::text::Text;
 use folders::folder::Folder;
+use listed_files::key::{is_key, path_of};
+use listed_files::storing::move_in;
 use std::alloc::Global;
 
 impl<F: Folder> LruDiskCache<F> {
     ghost use Rattle.lru_disk_cache.specs.Store.{KeepsInStep, Leaves, Makes};
     ghost use Rattle.lru_disk_cache.specs.Store.{IsStore, inserted, looked_up, room_beside};
-    ghost use Rattle.lru_disk_cache.specs.Store.{insert_verdict, LookUpFails, Uncounted};
+    ghost use Rattle.lru_disk_cache.specs.Store.{insert_verdict, LookUpFails};
+    ghost use Rattle.listed_files.specs.Calls.{Uncounted};
     ghost use Rattle.lru_disk_cache.specs.Spoiling.{MaySpoil};
 
     /// Stores a file of the folder under a key, as the most recent, by renaming it. The least recent go where
@@ -39,9 +42,9 @@ impl<F: Folder> LruDiskCache<F> {
     /// Refused as `Error::BadKey`; as `Error::Io` with `FolderFault::Missing` where there is no such file; as
     /// `Error::FileTooLarge` and `Error::PendingSpace`, in this order, which leave all as it was; then as
     /// `Error::Io` or for want of memory, which leave the list as it was, or the key out and some of the
-    /// least recent gone, none more than had to go. The file of the key is as it was or has all the bytes of
-    /// that file.
-    #[tactic(auto, using(crate::proofs::Spared::all_same, crate::proofs::Standing::none_lost, crate::proofs::Reserving::none_reserved, crate::proofs::Spoiled::none_spoiled))]
+    /// least recent gone, none more than had to go; where files are told the folder's counts tell which, as
+    /// for `insert_bytes`. The file of the key is as it was or has all the bytes of that file.
+    #[tactic(auto, using(listed_files::proofs::Spared::all_same, listed_files::proofs::Standing::none_lost, crate::proofs::Reserving::none_reserved, crate::proofs::Spoiled::none_spoiled))]
     pub fn insert_file(&mut self, key: &str, path: &str) -> Result<()>
         requires apart { bytes_eq (self.old.disk.root ++ key.now) path.now ≡ false }
         requires avoids { Avoids self.old.disk.root path.now self.old.disk.entries }
@@ -55,6 +58,9 @@ impl<F: Folder> LruDiskCache<F> {
         ensures whole { Leaves F.held (OldOrMoved path.now (self.old.disk.root ++ key.now)) self.old self.new }
         ensures fails { IfErr result (λ e. MoveFails key.now path.now e self.old.disk self.new.disk
             (F.held self.old.folder) (F.held self.new.folder)) }
+        ensures failed { WhereTold (F.held self.old.folder) (ToldSized result key.now (room_beside
+            self.old.disk) (IsSized path.now (F.held self.old.folder)) self.old.disk.entries
+            self.new.disk.entries (F.failures self.old.folder) (F.failures self.new.folder)) }
         ensures left { OnErr result (Leaves F.held (Keeps self.old.disk.root self.new.disk.entries) self.old
             self.new) }
         ensures reserved { Leaves F.held (KeepsReserved self.old.disk.pending) self.old self.new }
@@ -100,7 +106,7 @@ impl<F: Folder> LruDiskCache<F> {
     ///
     /// Refused as `Error::BadKey`, before the closure is called; as `Error::WriterRefused` exactly where the
     /// closure refuses, which leaves all as it was; then as `insert_bytes` is.
-    #[tactic(auto, using(crate::proofs::Spared::all_same))]
+    #[tactic(auto, using(listed_files::proofs::Spared::all_same))]
     pub fn insert_with<W: FnOnce(&mut Vec<u8>) -> std::result::Result<(), WriteFault>>(
         &mut self,
         key: &str,
@@ -116,6 +122,9 @@ impl<F: Folder> LruDiskCache<F> {
         ensures fails { IfErr result
             (λ e. WithFails (Wrote W.FnOnce (λ v. v.items) with) key.now e self.old.disk self.new.disk
             (F.held self.old.folder) (F.held self.new.folder)) }
+        ensures failed { WhereTold (F.held self.old.folder) (ToldSized result key.now (room_beside
+            self.old.disk) (WroteSize (Wrote W.FnOnce (λ v. v.items) with)) self.old.disk.entries
+            self.new.disk.entries (F.failures self.old.folder) (F.failures self.new.folder)) }
         ensures left { OnErr result (Leaves F.held (Keeps self.old.disk.root self.new.disk.entries) self.old
             self.new) }
         ensures reserved { Leaves F.held (KeepsReserved self.old.disk.pending) self.old self.new }

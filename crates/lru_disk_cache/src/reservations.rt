@@ -4,7 +4,7 @@ ghost use Rattle.std.specs.Option.{option_copied};
 ghost use Rattle.lru_disk_cache.specs.Reserved.{has, held_size, temp_of, without_number, unsure, IsLeastFree};
 
 use crate::entry::{LruDiskCacheAddEntry, Reserved, doubt, is_of};
-use crate::storing::Arrival;
+use listed_files::storing::Arrival;
 use lru_metered::Memory;
 use std::alloc::Global;
 use std::marker::Model;

@@ -173,6 +173,7 @@ impl<K: Eq + Hash, V, S: BuildHasher> Table<K, V, S> {
         ensures old { IfOk result (λ old. old ≡ lookup (K.eq key) self.old) }
         ensures handed_back { IfErr result (λ p. p ≡ (key, value)) }
         ensures err { OnErr result (self.new ≡ self.old) }
+        ensures absent { OnErr result (lookup (K.eq key) self.old ≡ None) }
     {
         let Some(found) = find(&self.nodes, self.heads.as_slice(), &self.hasher, &key) else {
             return self.put_new(key, value);

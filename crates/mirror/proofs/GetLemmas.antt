@@ -13,9 +13,9 @@ use Rattle.folders.specs.Files.{front}
 use Rattle.folders.specs.Held.{Became}
 use Rattle.folders.proofs.Exactly.{outside_both, none_outside}
 use Rattle.lru_metered.proofs.Lookups.{not_found}
-use Rattle.lru_disk_cache.specs.Disk.{Left, without_key}
-use Rattle.lru_disk_cache.specs.Entries.{promoted_key, IsEnd}
-use Rattle.lru_disk_cache.proofs.Trims.{absent_end, unlisted}
+use Rattle.listed_files.specs.Disk.{Left, without_key}
+use Rattle.listed_files.specs.Entries.{promoted_key, IsEnd}
+use Rattle.listed_files.proofs.Trims.{absent_end, unlisted}
 use Rattle.dist_types.specs.declared.cache_error.Error.{Error}
 use Rattle.dist_types.specs.declared.cache_error.Error.TheVariants as error
 use Rattle.toolchain_cache.specs.Archives.{Archives}

@@ -7,7 +7,7 @@ use Rattle.std.specs.Map.{lookup}
 use Rattle.std.specs.Str.{bytes_eq}
 use Rattle.std.proofs.lemmas.Slice.Eq.{bytes_eq-Decides}
 use Rattle.lru_metered.proofs.Lookups.{not_found}
-use Rattle.lru_disk_cache.specs.Entries.{total, promoted_key}
+use Rattle.listed_files.specs.Entries.{total, promoted_key}
 use Rattle.toolchain_cache.specs.Archives.{Archives, id_of}
 use Rattle.build_server.specs.Books.{is_listed}
 use Rattle.mirror.specs.OneCache.{Deed, Capacities, next, after, no_sides, one_next, one_after, larger, with_put}

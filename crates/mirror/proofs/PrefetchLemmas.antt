@@ -8,8 +8,8 @@ use Rattle.dist_types.specs.declared.ids.JobId.{JobId}
 use Rattle.dist_types.specs.declared.results.AssignJobResult.{AssignJobResult}
 use Rattle.folders.proofs.Lookups.{itself}
 use Rattle.lru_metered.proofs.Lookups.{others-none}
-use Rattle.lru_disk_cache.specs.Disk.{Left, without_key, staying}
-use Rattle.lru_disk_cache.proofs.Trims.{absent_end}
+use Rattle.listed_files.specs.Disk.{Left, without_key, staying}
+use Rattle.listed_files.proofs.Trims.{absent_end}
 use Rattle.dist_types.specs.declared.cache_error.Error.{Error}
 use Rattle.dist_types.specs.declared.cache_error.Error.TheVariants as error
 use Rattle.toolchain_cache.specs.Archives.{Archives}

@@ -14,10 +14,10 @@ use Rattle.std.proofs.lemmas.Map.Entries.{none_past_head}
 use Rattle.std.proofs.lemmas.Map.Keys.{IsDistinct-tail}
 use Rattle.std.proofs.lemmas.Slice.Eq.{bytes_eq-Decides}
 use Rattle.lru_metered.proofs.Lookups.{look_up, total-hit}
-use Rattle.lru_disk_cache.specs.Disk.{without_key}
-use Rattle.lru_disk_cache.specs.Entries.{total, sizes, trim, promoted_key}
-use Rattle.lru_disk_cache.proofs.Outs.{distinct_out}
-use Rattle.lru_disk_cache.proofs.Trims.{total_more, trim_fits, unlisted}
+use Rattle.listed_files.specs.Disk.{without_key}
+use Rattle.listed_files.specs.Entries.{total, sizes, trim, promoted_key}
+use Rattle.listed_files.proofs.Outs.{distinct_out}
+use Rattle.listed_files.proofs.Trims.{total_more, trim_fits, unlisted}
 use Rattle.folders.proofs.Distinct.{apart}
 use Rattle.folders.proofs.Lookups.{itself}
 use Rattle.toolchain_cache.specs.Archives.{Archives}

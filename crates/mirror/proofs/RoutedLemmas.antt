@@ -18,7 +18,7 @@ use Rattle.http_routes.specs.ReadBack.{seen}
 use Rattle.http_routes.specs.Reply.{body_of, reply_text}
 use Rattle.http_routes.specs.declared.reply.Response.{Response}
 use Rattle.http_routes.specs.declared.reply.Response.TheVariants.{Binary, NotFound}
-use Rattle.lru_disk_cache.specs.Entries.{promoted_key}
+use Rattle.listed_files.specs.Entries.{promoted_key}
 use Rattle.dist_types.specs.declared.cache_error.Error.TheVariants as error
 use Rattle.toolchain_cache.specs.Archives.{Archives, id_of}
 use Rattle.mirror.specs.Asking.{said_of}

@@ -5,8 +5,8 @@ use Rattle.std.specs.Str.{bytes_eq}
 use Rattle.folders.specs.Changed.{ButUnder}
 use Rattle.folders.specs.Files.{file_at, front}
 use Rattle.folders.specs.Held.{Held, Holds, Became}
-use Rattle.lru_disk_cache.specs.Entries.{promoted_key}
-use Rattle.lru_disk_cache.specs.Store.{Uncounted}
+use Rattle.listed_files.specs.Entries.{promoted_key}
+use Rattle.listed_files.specs.Calls.{Uncounted}
 use Rattle.dist_types.specs.declared.cache_error.Error.{Error}
 use Rattle.toolchain_cache.specs.Archives.{ArchiveStore, IsArchiveStore, IsInStep, id_of, archive_path}
 use Rattle.toolchain_cache.specs.Archiving.{archive_verdict, with_archive, FindFails, StoreFails}

@@ -4,8 +4,8 @@ use Rattle.std.specs.Prelude.{length, max}
 use Rattle.std.specs.Prelude.{unwrap_or, Err}
 use Rattle.std.specs.Map.{lookup}
 use Rattle.std.specs.Str.{bytes_eq}
-use Rattle.lru_disk_cache.specs.Disk.{without_key}
-use Rattle.lru_disk_cache.specs.Entries.{total, promoted_key}
+use Rattle.listed_files.specs.Disk.{without_key}
+use Rattle.listed_files.specs.Entries.{total, promoted_key}
 use Rattle.toolchain_cache.specs.Archives.{Archives, id_of}
 use Rattle.build_server.specs.Books.{is_listed}
 use Rattle.mirror.specs.Getting.{Answer, GivesNear, GivesFetched}

@@ -4,7 +4,7 @@ use Rattle.std.specs.Prelude.{if◌then◌else◌, Option, Some, None, Err}
 use Rattle.std.specs.List.{AllByRecursion}
 use Rattle.std.specs.Map.{lookup}
 use Rattle.std.specs.Str.{bytes_eq}
-use Rattle.lru_disk_cache.specs.Entries.{promoted_key}
+use Rattle.listed_files.specs.Entries.{promoted_key}
 use Rattle.toolchain_cache.specs.Archives.{Archives, id_of, archive_of}
 use Rattle.toolchain_cache.specs.Archiving.{with_archive}
 use Rattle.mirror.specs.Getting.{Answer, GivesNear, GivesFetched}

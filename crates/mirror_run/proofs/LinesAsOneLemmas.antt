@@ -3,7 +3,7 @@ use Rattle.std.proofs.Common.{◌≡◌, ℕ, ◌≤◌, ◌⊎◌, inl, inr, Bo
 use Rattle.std.proofs.Common.{refl, sym, ap, subst, ◌∙◌, arith}
 use Rattle.std.proofs.lemmas.Option.{same_Some}
 use Rattle.build_server.specs.Books.{is_listed}
-use Rattle.lru_disk_cache.specs.Entries.{total}
+use Rattle.listed_files.specs.Entries.{total}
 use Rattle.mirror_script.specs.declared.line.Site.TheVariants as site
 use Rattle.mirror_script.specs.declared.line.Step.{Step}
 use Rattle.mirror_script.specs.declared.line.Step.TheVariants as step

@@ -186,6 +186,36 @@ fn archives_over_a_folder_in_memory(rt: HostRuntime) -> Result<(), Fail> {
     Ok(())
 }
 
+/// A folder in memory, of which the calls of these numbers fail before they do anything.
+#[tactic(auto, using(crate::proofs::Empty::none_twice))]
+fn failing_folder(alloc: Global, numbers: Vec<u64>) -> MemFolder {
+    let calls = Calls::new(numbers, Vec::new(alloc));
+    MemFolder::new(alloc, Vec::new(alloc), calls)
+}
+
+#[test]
+fn failures_are_counted_by_kind(rt: HostRuntime) -> Result<(), Fail> {
+    let alloc = rt.alloc();
+    let mut numbers = Vec::new(alloc);
+    numbers.push(1)?;
+    numbers.push(2)?;
+    numbers.push(4)?;
+    let mut folder = failing_folder(alloc, numbers);
+    assert!(rt; folder.write("a", b"x").is_ok());
+    assert!(rt; folder.rename("a", "b").is_err());
+    assert!(rt; folder.remove("a").is_err());
+    assert!(rt; folder.rename("b", "a").is_err());
+    assert!(rt; folder.read("a").is_err());
+    assert!(rt; folder.rename("a", "b").is_ok());
+    assert!(rt; folder.remove("b").is_ok());
+    let failures = folder.failures();
+    assert_eq!(rt; failures.renames(), 1);
+    assert_eq!(rt; failures.removals(), 1);
+    assert_eq!(rt; failures.memory(), 0);
+    assert_eq!(rt; folder.faults(), 3);
+    Ok(())
+}
+
 #[test]
 fn archives_over_a_folder_of_the_system(rt: HostRuntime) -> Result<(), Fail> {
     let top = fresh_folder(&rt, "cache_tests_archives")?;

@@ -40,6 +40,8 @@ impl Folder for UntoldFolder {
 
     ghost held = { λ f. record { files = None; faults = (folder_held f.inner).faults } };
 
+    ghost failures = { λ f. record { renames = 0; removals = 0; memory = 0 } };
+
     fn list(&mut self, under: &str) -> Result<Vec<Found>, FolderFault> {
         self.inner.list(under)
     }

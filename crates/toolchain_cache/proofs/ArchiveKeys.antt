@@ -4,7 +4,7 @@ use Rattle.std.specs.List.{list_all, list_any, slice_split, onto_first}
 use Rattle.std.proofs.lemmas.Bool.Decides.{nat_tests}
 use Rattle.std.proofs.lemmas.List.Splits.{slice_split-cons_no}
 use Rattle.dist_types.specs.Toolchain.{is_lower_hex}
-use Rattle.lru_disk_cache.specs.Key.{is_key, are_key, is_temporary}
+use Rattle.listed_files.specs.Key.{is_key, are_key, is_temporary}
 use Rattle.folders.specs.Plain.{is_plain}
 use Rattle.toolchain_cache.specs.Archives.{is_id, archive_key}
 use Rattle.toolchain_cache.proofs.KeyLemmas.{id_digits, id_long}

@@ -10,11 +10,11 @@ use Rattle.std.proofs.Math.Seq.{take-append_seam, drop-append_seam}
 use Rattle.std.proofs.lemmas.List.Sums.{sum_by-cons}
 use Rattle.std.proofs.lemmas.Slice.Eq.{bytes_eq-Decides}
 use Rattle.folders.specs.Files.{Files, file_at, front, is_behind}
-use Rattle.lru_disk_cache.specs.Key.{is_key}
-use Rattle.lru_disk_cache.specs.Entries.{Entries, trim}
-use Rattle.lru_disk_cache.specs.Disk.{Backed, dropped}
+use Rattle.listed_files.specs.Key.{is_key}
+use Rattle.listed_files.specs.Entries.{Entries, trim}
+use Rattle.listed_files.specs.Disk.{Backed, dropped}
 use Rattle.folders.specs.Changed.{OnlyRemoved}
-use Rattle.lru_disk_cache.specs.Opened.{stripped, with_key, keyed, is_kept, listing, opened}
+use Rattle.listed_files.specs.Opened.{stripped, with_key, keyed, is_kept, listing, opened}
 use Rattle.toolchain_cache.specs.Archives.{Archives, id_of, is_id, archive_of, archive_key, archive_path}
 use Rattle.toolchain_cache.specs.Archives.{archive_at, archives_in, sound_archives, opened_archives}
 use Rattle.toolchain_cache.specs.Archives.{paths_under}
@@ -25,12 +25,12 @@ use Rattle.toolchain_cache.proofs.ArchiveKeys.{id_is_key}
 use Rattle.folders.proofs.Distinct.{apart}
 use Rattle.toolchain_cache.proofs.Ids.{id_length, digest_is_id}
 use Rattle.toolchain_cache.proofs.InStep.{path_once, in_more}
-use Rattle.lru_disk_cache.proofs.Outs.{dropped_and_rest}
+use Rattle.listed_files.proofs.Outs.{dropped_and_rest}
 use Rattle.toolchain_cache.proofs.Judged.{there_at}
-use Rattle.lru_disk_cache.proofs.Listings.{listing_more, all_listing}
+use Rattle.listed_files.proofs.Listings.{listing_more, all_listing}
 use Rattle.folders.proofs.Lookups.{itself}
-use Rattle.lru_disk_cache.proofs.Standing.{all_both}
-use Rattle.lru_disk_cache.proofs.Strips.{begins}
+use Rattle.listed_files.proofs.Standing.{all_both}
+use Rattle.listed_files.proofs.Strips.{begins}
 use Rattle.toolchain_cache.proofs.Unkeyed.{id_of_key, trim_un, keys_trimmed}
 
 -- ---- sound files as entries

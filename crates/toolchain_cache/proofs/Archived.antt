@@ -1,10 +1,10 @@
 -- What an opening lists of archives.
 use Rattle.std.proofs.Common.{◌≡◌, ℕ, ◌≤◌, cond, nat_le, List, [], ◌∷◌, filter, refl, ap, ◌∙◌, arith, le-leb}
 use Rattle.std.proofs.lemmas.List.Sums.{sum_by-cons}
-use Rattle.lru_disk_cache.specs.Entries.{total, trim}
+use Rattle.listed_files.specs.Entries.{total, trim}
 use Rattle.toolchain_cache.specs.Archives.{Archives}
 use Rattle.toolchain_cache.specs.Archiving.{ArchivesReopen}
-use Rattle.lru_disk_cache.proofs.Trims.{trim_fits}
+use Rattle.listed_files.proofs.Trims.{trim_fits}
 
 -- of archives that fit together each fits
 all_small : (capacity : ℕ) (es : Archives) → total es ≤ capacity

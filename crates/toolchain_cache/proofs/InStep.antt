@@ -9,18 +9,18 @@ use Rattle.std.specs.Str.{bytes_eq}
 use Rattle.std.proofs.lemmas.List.Elements.{filter_map-append}
 use Rattle.std.proofs.lemmas.Slice.Eq.{bytes_eq-Decides}
 use Rattle.folders.specs.Files.{Files, file_at, front, without, put, touched, put_found}
-use Rattle.lru_disk_cache.specs.Key.{insert_name}
-use Rattle.lru_disk_cache.specs.Entries.{Entries, trim, promoted_key}
-use Rattle.lru_disk_cache.specs.Disk.{Avoids, dropped, without_each, files_stored, without_key, stored}
+use Rattle.listed_files.specs.Key.{insert_name}
+use Rattle.listed_files.specs.Entries.{Entries, trim, promoted_key}
+use Rattle.listed_files.specs.Disk.{Avoids, dropped, without_each, files_stored, without_key, stored}
 use Rattle.toolchain_cache.specs.Archives.{Archives, id_of, archive_of, archive_key, archive_path, archive_in}
 use Rattle.toolchain_cache.specs.Archives.{archives_in}
 use Rattle.toolchain_cache.specs.Keyed.{id_in, unkeyed, AllArchiveKeys}
 use Rattle.folders.proofs.Distinct.{apart}
-use Rattle.lru_disk_cache.proofs.Listings.{but_key, out_kept, out_gone}
+use Rattle.listed_files.proofs.Listings.{but_key, out_kept, out_gone}
 use Rattle.folders.proofs.Lookups.{itself, put_same}
-use Rattle.lru_disk_cache.proofs.Paths.{same_front}
-use Rattle.lru_disk_cache.proofs.Outs.{but_each, but_each_later, out_once, front_out, dropped_and_rest}
-use Rattle.lru_disk_cache.proofs.Outs.{distinct_out, there_still, found_entry}
+use Rattle.listed_files.proofs.Paths.{same_front}
+use Rattle.listed_files.proofs.Outs.{but_each, but_each_later, out_once, front_out, dropped_and_rest}
+use Rattle.listed_files.proofs.Outs.{distinct_out, there_still, found_entry}
 
 -- archives with one key have one id
 pub key_once : (a b : List ℕ) → archive_key a ≡ archive_key b → a ≡ b

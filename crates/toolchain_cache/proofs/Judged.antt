@@ -19,7 +19,7 @@ use Rattle.folders.proofs.Became.{became_from}
 use Rattle.folders.proofs.Distinct.{apart, distinct_filtered, without_distinct}
 use Rattle.toolchain_cache.proofs.Ids.{id_length, key_length}
 use Rattle.folders.proofs.Lookups.{itself, without_other}
-use Rattle.lru_disk_cache.proofs.Strips.{begins}
+use Rattle.listed_files.proofs.Strips.{begins}
 
 -- of the first files those that are sound are left, and of the others all, and files elsewhere stay
 abbrev pub SoFar : List ℕ → ℕ → ℕ → Files → Files → Type 0

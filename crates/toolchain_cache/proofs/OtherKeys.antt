@@ -8,8 +8,8 @@ use Rattle.std.specs.Str.{bytes_eq}
 use Rattle.std.proofs.lemmas.Slice.Eq.{bytes_eq-Decides}
 use Rattle.folders.specs.Files.{Files}
 use Rattle.folders.specs.Held.{Held, Holds}
-use Rattle.lru_disk_cache.specs.Entries.{Entries}
-use Rattle.lru_disk_cache.specs.Disk.{without_key}
+use Rattle.listed_files.specs.Entries.{Entries}
+use Rattle.listed_files.specs.Disk.{without_key}
 use Rattle.dist_types.specs.declared.cache_error.Error.{Error}
 use Rattle.toolchain_cache.specs.Cleaned.{is_archive_key, are_archive_keys, other_keys, without_keys}
 

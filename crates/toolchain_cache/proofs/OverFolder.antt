@@ -11,9 +11,9 @@ use Rattle.dist_types.specs.declared.cache_error.Error.TheVariants.{FileTooLarge
 use Rattle.dist_types.specs.declared.cache_error.Error.TheVariants.{PendingSpace, BadKey, NotPending}
 use Rattle.dist_types.specs.declared.cache_error.Error.TheVariants.{WrongDigest, WriterRefused}
 use Rattle.dist_types.specs.declared.cache_error.Error.TheVariants.{Memory as NoMemory}
-use Rattle.lru_disk_cache.specs.Disk.{Backed}
+use Rattle.listed_files.specs.Disk.{Backed}
 use Rattle.folders.specs.Changed.{OnlyRemoved, ButUnder}
-use Rattle.lru_disk_cache.specs.Opened.{opened, Shows}
+use Rattle.listed_files.specs.Opened.{opened, Shows}
 use Rattle.lru_disk_cache.specs.Store.{Disk, Store, IsStore, opened_disk, IoCause, OpenFails}
 use Rattle.toolchain_cache.specs.Archives.{archive_path, opened_archives, paths_under, IsInStep}
 use Rattle.toolchain_cache.specs.Archiving.{Relists}

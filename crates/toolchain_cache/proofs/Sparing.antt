@@ -12,11 +12,11 @@ use Rattle.folders.specs.Held.{Held, Holds, Became}
 use Rattle.folders.specs.Changed.{SameAt, OnlyRemoved, RemovedAt}
 use Rattle.folders.specs.declared.folder.Found.{Found}
 use Rattle.folders.proofs.Became.{became_map, became_same, became_then, became_from}
-use Rattle.lru_disk_cache.specs.Disk.{Backed, Keeps}
-use Rattle.lru_disk_cache.specs.Entries.{Entries}
-use Rattle.lru_disk_cache.specs.Opened.{opened, KeepsOpened}
+use Rattle.listed_files.specs.Disk.{Backed, Keeps}
+use Rattle.listed_files.specs.Entries.{Entries}
+use Rattle.listed_files.specs.Opened.{opened, KeepsOpened}
 use Rattle.lru_disk_cache.specs.Store.{Disk, IsStore, opened_disk}
-use Rattle.lru_disk_cache.proofs.Standing.{all_both}
+use Rattle.listed_files.proofs.Standing.{all_both}
 use Rattle.toolchain_cache.specs.Archives.{Archives, id_of, archive_of, archive_key, archive_path}
 use Rattle.toolchain_cache.specs.Archives.{sound_archives, opened_archives}
 use Rattle.toolchain_cache.specs.Cleaned.{found_of, under, is_sound, Cleaned, KeepsSound, SparesSound}

@@ -2,7 +2,7 @@
 use Rattle.std.proofs.Common.{ℕ, Option, subst}
 use Rattle.folders.specs.Files.{Files, front}
 use Rattle.folders.specs.Held.{Held, Became}
-use Rattle.lru_disk_cache.specs.Disk.{ButInsert, KeepsSpoiled}
+use Rattle.listed_files.specs.Disk.{ButInsert, KeepsSpoiled}
 use Rattle.lru_disk_cache.specs.Store.{Disk}
 use Rattle.toolchain_cache.specs.Keyed.{IsKeyed}
 

@@ -10,8 +10,8 @@ use Rattle.folders.specs.Changed.{ButAt}
 use Rattle.folders.proofs.Became.{became_map, became_same}
 use Rattle.dist_types.specs.declared.cache_error.Error.{Error}
 use Rattle.dist_types.specs.declared.cache_error.Error.TheVariants.{Memory as NoMemory}
-use Rattle.lru_disk_cache.specs.Entries.{Entries, trim}
-use Rattle.lru_disk_cache.specs.Disk.{Keeps, IsInsertTemp, staying, dropped, files_stored, without_key}
+use Rattle.listed_files.specs.Entries.{Entries, trim}
+use Rattle.listed_files.specs.Disk.{Keeps, IsInsertTemp, staying, dropped, files_stored, without_key}
 use Rattle.lru_disk_cache.specs.Store.{Disk, room_beside, LookUpFails, RemoveFails}
 use Rattle.lru_metered.proofs.Lookups.{others-none}
 use Rattle.toolchain_cache.specs.Archives.{Archives, is_id, archive_key, archive_path}

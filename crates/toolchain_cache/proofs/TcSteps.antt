@@ -10,18 +10,20 @@ use Rattle.std.proofs.lemmas.Bool.Decides.{nat_tests}
 use Rattle.std.proofs.lemmas.Slice.Eq.{bytes_eq-Decides}
 use Rattle.lru_metered.proofs.Lookups.{others-none}
 use Rattle.folders.specs.Files.{Files, file_at, front, touched, without}
-use Rattle.lru_disk_cache.specs.Key.{is_key, insert_name}
+use Rattle.listed_files.specs.Key.{is_key, insert_name}
 use Rattle.folders.specs.Held.{Held, Holds, Became, BecameBy, Lacks}
 use Rattle.dist_types.specs.declared.cache_error.Error.{Error}
 use Rattle.dist_types.specs.declared.cache_error.Error.TheVariants.{FileTooLarge, FileNotInCache, Io}
 use Rattle.dist_types.specs.declared.cache_error.Error.TheVariants.{PendingSpace, BadKey, NotPending}
 use Rattle.dist_types.specs.declared.cache_error.Error.TheVariants.{WrongDigest, WriterRefused}
 use Rattle.dist_types.specs.declared.cache_error.Error.TheVariants.{Memory as NoMemory}
-use Rattle.lru_disk_cache.specs.Entries.{Entries, promoted_key}
-use Rattle.lru_disk_cache.specs.Disk.{Keeps, IsInsertTemp, Left, staying, dropped, files_stored}
+use Rattle.listed_files.specs.Entries.{Entries, promoted_key}
+use Rattle.listed_files.specs.Disk.{Keeps, IsInsertTemp, Left, staying, dropped, files_stored}
 use Rattle.folders.specs.Changed.{SameAt, SameBelow}
-use Rattle.lru_disk_cache.specs.Disk.{without_key}
+use Rattle.listed_files.specs.Disk.{without_key}
 use Rattle.lru_disk_cache.specs.Reserved.{held_size}
+use Rattle.folders.specs.Failures.{Failures}
+use Rattle.listed_files.specs.Told.{ToldStored}
 use Rattle.lru_disk_cache.specs.Store.{Disk, LeftBy, Refuses, looked_up, removed, inserted, room_beside}
 use Rattle.lru_disk_cache.specs.Store.{insert_verdict, InsertFails, LookUpFails, RemoveFails}
 use Rattle.toolchain_cache.specs.Archives.{is_id, id_of, archive_of, archive_key, archive_path, archives_in}
@@ -35,11 +37,11 @@ use Rattle.folders.proofs.Became.{became_from}
 use Rattle.folders.proofs.Exactly.{made_is}
 use Rattle.toolchain_cache.proofs.InStep.{in_stored, in_touched, in_gone}
 use Rattle.toolchain_cache.proofs.KeyLemmas.{id_long}
-use Rattle.lru_disk_cache.proofs.Standing.{all_both, kept_by_same}
+use Rattle.listed_files.proofs.Standing.{all_both, kept_by_same}
 use Rattle.toolchain_cache.proofs.Unkeyed.{id_of_key, key_is_archive, looked_up_un, without_un}
 use Rattle.toolchain_cache.proofs.Unkeyed.{promoted_key_un, stored_un, left_un, keys_out, keys_end}
 use Rattle.toolchain_cache.proofs.Unkeyed.{keys_promoted, keys_stored, keys_of_end, staying_has, dropped_un}
-use Rattle.toolchain_cache.proofs.Unkeyed.{keys_dropped}
+use Rattle.toolchain_cache.proofs.Unkeyed.{keys_dropped, told_un}
 
 -- ---- what stands behind a call
 
@@ -342,6 +344,16 @@ left_by id key bytes d e fit is keys none left =
     left_un id (d.capacity - length bytes) d.entries e.entries fit keys
     (subst (λ n. P (archive_key id) n) (room_is d (length bytes) none)
     (subst (λ k. P k (room_beside d (length bytes))) is left.entries))
+
+pub told_by : (id key bytes : List ℕ) (d e : Disk) (f g : Failures) (result : Result (Unit {0}) Error)
+    → is_id id ≡ true → key ≡ archive_key id → AllArchiveKeys d.entries → d.pending ≡ []
+    → ToldStored result key (room_beside d (length bytes)) d.entries e.entries f g
+    → ToldStored result id (d.capacity - length bytes) (unkeyed d.entries) (unkeyed e.entries) f g
+told_by id key bytes d e f g result fit is keys none told =
+    let P : List ℕ → ℕ → Type 0 = λ k n. ToldStored result k n d.entries e.entries f g in
+    told_un result id (d.capacity - length bytes) d.entries e.entries f g fit keys
+    (subst (λ n. P (archive_key id) n) (room_is d (length bytes) none)
+    (subst (λ k. P k (room_beside d (length bytes))) is told))
 
 -- why it failed, by id: what may be stored is admitted, so its verdict refuses nothing
 pub stored_fails : (id key bytes : List ℕ) (d e : Disk) (old new : Held) (result : Result (Unit {0}) Error)

@@ -1,7 +1,7 @@
 -- Archives seen through their keys: each step on keys with sizes is that on ids.
 use Rattle.std.proofs.Common.{◌≡◌, ℕ, ◌≤◌, Bool, true, false, cond, is_some, nat_le, List, [], ◌∷◌, ◌++◌}
 use Rattle.std.proofs.Common.{length, Option, Some, None, inl, inr, refl, sym, ap, subst, ◌∙◌, true≢false}
-use Rattle.std.proofs.Common.{arith}
+use Rattle.std.proofs.Common.{arith, Result, Ok, Err}
 use Rattle.std.specs.List.{AllByRecursion, IsDistinct}
 use Rattle.std.specs.Map.{keys_of, lookup, lookup_entry, remove_entry}
 use Rattle.std.specs.Option.{option_map, option_map_or}
@@ -10,11 +10,13 @@ use Rattle.std.proofs.lemmas.List.{map-append}
 use Rattle.std.proofs.lemmas.List.Sums.{sum_by-cons}
 use Rattle.std.proofs.lemmas.Slice.Eq.{bytes_eq-Decides}
 use Rattle.lru_metered.specs.Metered.{promoted}
+use Rattle.folders.specs.Failures.{Failures}
 use Rattle.folders.specs.Files.{Files, file_at, front}
 use Rattle.folders.specs.Held.{Held}
-use Rattle.lru_disk_cache.specs.Entries.{Entries, total, trim, promoted_key}
-use Rattle.lru_disk_cache.specs.Disk.{without_key, staying, stored, dropped, Left}
+use Rattle.listed_files.specs.Entries.{Entries, total, trim, promoted_key}
+use Rattle.listed_files.specs.Disk.{without_key, staying, stored, dropped, Left}
 use Rattle.lru_disk_cache.specs.Store.{Disk}
+use Rattle.listed_files.specs.Told.{ToldStored}
 use Rattle.toolchain_cache.specs.Archives.{is_id, archive_key, archive_of, AllVerified, IsArchiveStore}
 use Rattle.toolchain_cache.specs.Keyed.{id_in, unkeyed, IsArchiveKey, AllArchiveKeys, AllHold, IsKeyed}
 use Rattle.toolchain_cache.proofs.KeyLemmas.{id_long}
@@ -256,6 +258,32 @@ left_un id limit es new fit keys left = elim left [
         ∙ trim_un limit (without_key (archive_key id) es))),
   )
 ]
+
+-- and what the counts tell of it
+pub told_un : {T E : Type 0} (result : Result T E) (id : List ℕ) (limit : ℕ) (es new : Entries) (f g : Failures)
+    → is_id id ≡ true → AllArchiveKeys es → ToldStored result (archive_key id) limit es new f g
+    → ToldStored result id limit (unkeyed es) (unkeyed new) f g
+told_un (Ok x) id limit es new f g fit keys told = told
+told_un (Err e) id limit es new f g fit keys told =
+    let without = without_un id es fit keys in
+    elim told [
+      | inl same ↦ inl (ap unkeyed same.0, same.1)
+      | inr some ↦ elim some [
+        | inl up ↦ inr (inl (
+          (
+            unkeyed up.0.0,
+            un up.0.1,
+            without ∙ (ap unkeyed up.0.2 ∙ map-append un up.0.0 (up.0.1 ∷ new)),
+          ),
+          up.1,
+        ))
+        | inr all ↦ inr (inr (
+          ap unkeyed all.0
+              ∙ sym (ap (trim limit) without ∙ trim_un limit (without_key (archive_key id) es)),
+          all.1,
+        ))
+      ]
+    ]
 
 pub dropped_un : (limit : ℕ) (es : Entries) → dropped limit (unkeyed es) ≡ unkeyed (dropped limit es)
 dropped_un limit [] = refl

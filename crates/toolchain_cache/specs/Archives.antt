@@ -10,7 +10,7 @@ use Rattle.sha2.specs.Sha256.{sha256}
 use Rattle.dist_types.specs.Toolchain.{is_lower_hex}
 use Rattle.folders.specs.Files.{Files, file_at, front, is_behind}
 use Rattle.folders.specs.Held.{Held, Holds}
-use Rattle.lru_disk_cache.specs.Entries.{Entries, total, trim}
+use Rattle.listed_files.specs.Entries.{Entries, total, trim}
 
 -- the id and the size of each archive
 abbrev pub Archives : Type 0

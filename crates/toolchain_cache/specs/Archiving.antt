@@ -11,8 +11,8 @@ use Rattle.dist_types.specs.declared.cache_error.Error.TheVariants.{FileTooLarge
 use Rattle.dist_types.specs.declared.cache_error.Error.TheVariants.{PendingSpace, BadKey, NotPending}
 use Rattle.dist_types.specs.declared.cache_error.Error.TheVariants.{WrongDigest, WriterRefused}
 use Rattle.dist_types.specs.declared.cache_error.Error.TheVariants.{Memory as NoMemory}
-use Rattle.lru_disk_cache.specs.Entries.{total, promoted_key}
-use Rattle.lru_disk_cache.specs.Disk.{Left, stored, dropped, without_key}
+use Rattle.listed_files.specs.Entries.{total, promoted_key}
+use Rattle.listed_files.specs.Disk.{Left, stored, dropped, without_key}
 use Rattle.lru_disk_cache.specs.Store.{IoCause}
 use Rattle.toolchain_cache.specs.Archives.{Archives, id_of, AllVerified, archives_in, sound_archives}
 use Rattle.toolchain_cache.specs.Archives.{opened_archives}

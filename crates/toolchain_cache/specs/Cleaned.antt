@@ -7,8 +7,8 @@ use Rattle.std.specs.Str.{bytes_eq}
 use Rattle.folders.specs.Files.{Files, file_at, is_behind}
 use Rattle.folders.specs.Held.{Held}
 use Rattle.folders.specs.declared.folder.Found.{Found}
-use Rattle.lru_disk_cache.specs.Entries.{Entries}
-use Rattle.lru_disk_cache.specs.Disk.{without_key}
+use Rattle.listed_files.specs.Entries.{Entries}
+use Rattle.listed_files.specs.Disk.{without_key}
 use Rattle.toolchain_cache.specs.Archives.{is_id, id_of, archive_key}
 use Rattle.folders.specs.Changed.{ButUnder}
 use Rattle.toolchain_cache.specs.Keyed.{id_in}

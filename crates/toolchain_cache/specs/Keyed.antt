@@ -4,7 +4,7 @@ use Rattle.std.specs.List.{AllByRecursion}
 use Rattle.std.specs.Option.{option_map}
 use Rattle.folders.specs.Files.{Files, file_at, front}
 use Rattle.folders.specs.Held.{Held, Holds}
-use Rattle.lru_disk_cache.specs.Entries.{Entries}
+use Rattle.listed_files.specs.Entries.{Entries}
 use Rattle.lru_disk_cache.specs.Store.{Disk}
 use Rattle.toolchain_cache.specs.Archives.{Archives, is_id, archive_key, archive_of}
 

@@ -3,7 +3,7 @@ use Rattle.std.specs.Prelude.{◌≡◌, ℕ, ◌-◌, List}
 use Rattle.std.specs.List.{AllByRecursion}
 use Rattle.folders.specs.Files.{Files, file_at, front}
 use Rattle.folders.specs.Held.{Held, BecameBy}
-use Rattle.lru_disk_cache.specs.Disk.{IsInsertTemp, staying, files_stored}
+use Rattle.listed_files.specs.Disk.{IsInsertTemp, staying, files_stored}
 use Rattle.toolchain_cache.specs.Archives.{Archives, archive_path, opened_archives}
 use Rattle.toolchain_cache.specs.Keyed.{with_keys}
 

@@ -2,7 +2,8 @@
 //! none where files are told.
 ghost use Rattle.std.specs.Prelude.{◌≡◌, ◌≤◌, ◌⊎◌, true, None, IfErr, OnOk};
 ghost use Rattle.folders.specs.Held.{Holds};
-ghost use Rattle.lru_disk_cache.specs.Store.{OpenFails, Uncounted};
+ghost use Rattle.lru_disk_cache.specs.Store.{OpenFails};
+ghost use Rattle.listed_files.specs.Calls.{Uncounted};
 ghost use Rattle.toolchain_cache.specs.Cleaned.{are_archive_keys, without_keys, NoneTold};
 
 use crate::cleaning::other_keys;

@@ -1,16 +1,16 @@
 //! `TcCache`: archives of toolchains, known by the SHA-256 of their content.
-ghost use Rattle.std.specs.Prelude.{◌≡◌, ◌≤◌, ◌⊎◌, [], true, false, length, map, nat_le, is_some, Some, None};
+ghost use Rattle.std.specs.Prelude.{◌≡◌, ◌≤◌, ◌⊎◌, ◌-◌, [], true, false, length, map, nat_le, is_some, Some, None};
 ghost use Rattle.std.specs.Prelude.{Ok, Err, IsSome, IfOk, IfErr, OnOk, OnErr};
 ghost use Rattle.std.specs.Map.{lookup};
 ghost use Rattle.std.specs.Str.{bytes_eq};
 ghost use Rattle.folders.specs.Files.{file_at, front, put, moved, touched, without};
 ghost use Rattle.folders.specs.Files.{PartWritten, DoneOrNot, Same};
 ghost use Rattle.folders.specs.Held.{Holds, Became, BecameBy, Lacks, Never, Changes};
-ghost use Rattle.lru_disk_cache.specs.Entries.{total, promoted_key};
+ghost use Rattle.listed_files.specs.Entries.{total, promoted_key};
 ghost use Rattle.folders.specs.Changed.{RemovedOrSame};
-ghost use Rattle.lru_disk_cache.specs.Disk.{IsBeside};
+ghost use Rattle.listed_files.specs.Disk.{IsBeside};
 ghost use Rattle.folders.specs.Changed.{ButAt, ButUnder, SameAt, OnlyRemoved, RemovedUnder, IsOutside};
-ghost use Rattle.lru_disk_cache.specs.Disk.{without_key, ButInsert, KeepsSpoiled};
+ghost use Rattle.listed_files.specs.Disk.{without_key, ButInsert, KeepsSpoiled};
 ghost use Rattle.toolchain_cache.specs.Archives.{id_of, archive_path, opened_archives, paths_under, IsInStep};
 ghost use Rattle.toolchain_cache.specs.Archives.{IsArchiveStore};
 ghost use Rattle.toolchain_cache.specs.Cleaned.{are_archive_keys, NoneTold};
@@ -19,7 +19,9 @@ ghost use Rattle.toolchain_cache.specs.Archiving.{archive_verdict, with_archive,
 ghost use Rattle.toolchain_cache.specs.Archiving.{DropFails, Relists, dropped_for};
 ghost use Rattle.lru_disk_cache.specs.Spoiling.{MaySpoil};
 ghost use Rattle.toolchain_cache.specs.Stored.{KeepsArchives, KeepsListed, PlacesArchive, staying_for};
-ghost use Rattle.lru_disk_cache.specs.Moving.{Wrote};
+ghost use Rattle.lru_disk_cache.specs.Moving.{Wrote, WroteSize};
+ghost use Rattle.listed_files.specs.Told.{ToldSized, ToldStored};
+ghost use Rattle.folders.specs.Failures.{WhereTold};
 ghost use Rattle.toolchain_cache.specs.Archiving.{StoreWithFails};
 ghost use Rattle.folders.specs.Whole.{OldOr, OldOrWritten};
 
@@ -60,7 +62,8 @@ impl<F: Folder> Model for TcCache<F> {
 }
 
 impl<F: Folder> TcCache<F> {
-    ghost use Rattle.lru_disk_cache.specs.Store.{OpenFails, Uncounted};
+    ghost use Rattle.lru_disk_cache.specs.Store.{OpenFails};
+    ghost use Rattle.listed_files.specs.Calls.{Uncounted};
 
     /// Opens a cache of `cache_size` bytes of the archives below a path, which is empty or a key. A file is
     /// removed that does not stand where its SHA-256 says or that is larger than that, and the least recent
@@ -176,9 +179,10 @@ impl<F: Folder> TcCache<F> {
     /// Refused as `Error::WrongDigest`, where the SHA-256 of the bytes is not the toolchain's id, and as
     /// `Error::FileTooLarge`, in this order, which leave all as it was; then as `Error::Io` or for want of
     /// memory, which leave the list as it was, or the archive unlisted and some of the least recent gone,
-    /// none more than had to go. The file of the archive is as it was or has all the bytes. What was written
-    /// of the temporary file stays until the next opening, and is touched by no call before that.
-    #[tactic(auto, using(lru_disk_cache::proofs::Spared::all_same, lru_disk_cache::proofs::Spoiled::none_inserted, crate::proofs::StoredLemmas::archives_stay))]
+    /// none more than had to go; where files are told the folder's counts tell which, as for
+    /// `LruDiskCache::insert_bytes`. The file of the archive is as it was or has all the bytes. What was
+    /// written of the temporary file stays until the next opening, and is touched by no call before that.
+    #[tactic(auto, using(listed_files::proofs::Spared::all_same, lru_disk_cache::proofs::Spoiled::none_inserted, crate::proofs::StoredLemmas::archives_stay))]
     pub fn insert_bytes(&mut self, tc: &Toolchain, bytes: &[u8]) -> Result<()>
         ensures ok { OnOk result (self.new.archives ≡ with_archive self.old.capacity tc.now
             (length bytes.now) self.old.archives) }
@@ -191,6 +195,9 @@ impl<F: Folder> TcCache<F> {
         ensures fails { IfErr result
             (λ e. StoreFails self.old.capacity tc.now bytes.now e self.old.archives self.new.archives
             (F.held self.old.folder) (F.held self.new.folder)) }
+        ensures failed { WhereTold (F.held self.old.folder) (ToldStored result tc.now (self.old.capacity
+            - length bytes.now) self.old.archives self.new.archives (F.failures self.old.folder)
+            (F.failures self.new.folder)) }
         ensures in_step { IsInStep self.old.path (F.held self.old.folder) self.old.archives
             → OnOk result (IsInStep self.new.path (F.held self.new.folder) self.new.archives) }
         ensures at { (self.new.path ≡ self.old.path) × (self.new.capacity ≡ self.old.capacity) }
@@ -368,7 +375,7 @@ impl<F: Folder> TcCache<F> {
     ///
     /// Refused as `Error::WriterRefused` exactly where the closure refuses, which leaves all as it was; then
     /// as `insert_bytes` is.
-    #[tactic(auto, using(lru_disk_cache::proofs::Spared::all_same, lru_disk_cache::proofs::Spoiled::none_inserted, crate::proofs::StoredLemmas::archives_stay))]
+    #[tactic(auto, using(listed_files::proofs::Spared::all_same, lru_disk_cache::proofs::Spoiled::none_inserted, crate::proofs::StoredLemmas::archives_stay))]
     pub fn insert_with<W: FnOnce(&mut Vec<u8>) -> std::result::Result<(), WriteFault>>(
         &mut self,
         tc: &Toolchain,
@@ -392,6 +399,9 @@ impl<F: Folder> TcCache<F> {
         ensures fails { IfErr result
             (λ e. StoreWithFails (Wrote W.FnOnce (λ v. v.items) with) self.old.capacity tc.now e
             self.old.archives self.new.archives (F.held self.old.folder) (F.held self.new.folder)) }
+        ensures failed { WhereTold (F.held self.old.folder) (ToldSized result tc.now (λ n. self.old.capacity
+            - n) (WroteSize (Wrote W.FnOnce (λ v. v.items) with)) self.old.archives self.new.archives
+            (F.failures self.old.folder) (F.failures self.new.folder)) }
         ensures in_step { IsInStep self.old.path (F.held self.old.folder) self.old.archives
             → OnOk result (IsInStep self.new.path (F.held self.new.folder) self.new.archives) }
         ensures at { (self.new.path ≡ self.old.path) × (self.new.capacity ≡ self.old.capacity) }
@@ -440,6 +450,9 @@ impl<F: Folder> TcCache<F> {
         ensures fails { IfErr result
             (λ e. StoreFails self.old.capacity (id_of bytes.now) bytes.now e self.old.archives
             self.new.archives (F.held self.old.folder) (F.held self.new.folder)) }
+        ensures failed { WhereTold (F.held self.old.folder) (ToldStored result (id_of bytes.now)
+            (self.old.capacity - length bytes.now) self.old.archives self.new.archives
+            (F.failures self.old.folder) (F.failures self.new.folder)) }
         ensures in_step { IsInStep self.old.path (F.held self.old.folder) self.old.archives
             → OnOk result (IsInStep self.new.path (F.held self.new.folder) self.new.archives) }
         ensures at { (self.new.path ≡ self.old.path) × (self.new.capacity ≡ self.old.capacity) }
@@ -543,7 +556,7 @@ impl<F: Folder> TcCache<F> {
     /// Stores bytes whose SHA-256 is the id of the toolchain, as `insert_bytes` does, and hashes nothing.
     ///
     /// Refused as `Error::FileTooLarge`, which leaves all as it was, and else as `insert_bytes` is.
-    #[tactic(auto, using(lru_disk_cache::proofs::Spared::all_same, lru_disk_cache::proofs::Spoiled::none_inserted, crate::proofs::StoredLemmas::archives_stay))]
+    #[tactic(auto, using(listed_files::proofs::Spared::all_same, lru_disk_cache::proofs::Spoiled::none_inserted, crate::proofs::StoredLemmas::archives_stay))]
     pub fn insert_verified(&mut self, tc: &Toolchain, bytes: &[u8]) -> Result<()>
         requires { id_of bytes.now ≡ tc.now }
         ensures ok { OnOk result (self.new.archives ≡ with_archive self.old.capacity tc.now
@@ -557,6 +570,9 @@ impl<F: Folder> TcCache<F> {
         ensures fails { IfErr result
             (λ e. StoreFails self.old.capacity tc.now bytes.now e self.old.archives self.new.archives
             (F.held self.old.folder) (F.held self.new.folder)) }
+        ensures failed { WhereTold (F.held self.old.folder) (ToldStored result tc.now (self.old.capacity
+            - length bytes.now) self.old.archives self.new.archives (F.failures self.old.folder)
+            (F.failures self.new.folder)) }
         ensures in_step { IsInStep self.old.path (F.held self.old.folder) self.old.archives
             → OnOk result (IsInStep self.new.path (F.held self.new.folder) self.new.archives) }
         ensures at { (self.new.path ≡ self.old.path) × (self.new.capacity ≡ self.old.capacity) }

@@ -1,5 +1,5 @@
 use Rattle.std.proofs.Common.{◌≡◌, ◌+◌}
-use Rattle.lru_disk_cache.specs.Entries.{total}
+use Rattle.listed_files.specs.Entries.{total}
 use Rattle.build_server.proofs.store.sum.Given as goal
 
 abbrev pub invariant-loop-size : goal.invariant-loop-size

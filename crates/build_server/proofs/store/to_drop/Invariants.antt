@@ -1,6 +1,6 @@
 use Rattle.std.proofs.Common.{◌≡◌, ◌++◌}
-use Rattle.lru_disk_cache.specs.Disk.{dropped}
-use Rattle.lru_disk_cache.specs.Entries.{total}
+use Rattle.listed_files.specs.Disk.{dropped}
+use Rattle.listed_files.specs.Entries.{total}
 use Rattle.build_server.specs.Books.{ids}
 use Rattle.build_server.proofs.store.to_drop.Given as goal
 

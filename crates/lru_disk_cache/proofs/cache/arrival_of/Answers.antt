@@ -1,4 +1,4 @@
-use Rattle.lru_disk_cache.proofs.Paths.{temp_keyless, named_keyless}
+use Rattle.listed_files.proofs.Paths.{temp_keyless, named_keyless}
 use Rattle.lru_disk_cache.proofs.cache.arrival_of.Goals as goal
 
 pub returns-clause-keyless : goal.returns-clause-keyless

@@ -1,4 +1,4 @@
-use Rattle.lru_disk_cache.proofs.Paths.{insert_keyless, named_keyless}
+use Rattle.listed_files.proofs.Paths.{insert_keyless, named_keyless}
 use Rattle.lru_disk_cache.proofs.cache.insert_arrival.Goals as goal
 
 pub returns-clause-keyless : goal.returns-clause-keyless

@@ -1,14 +1,13 @@
 use Rattle.std.proofs.Common.{◌≡◌, ◌+◌, ◌≤◌, true, false, IfErr, OnOk, refl, sym, ap, subst, ◌∙◌, arith}
 use Rattle.folders.specs.Files.{without}
 use Rattle.folders.specs.Held.{Holds, Lacks, Became}
-use Rattle.lru_disk_cache.specs.Entries.{total}
+use Rattle.listed_files.specs.Entries.{total}
 use Rattle.folders.specs.Changed.{ButAt, OnlyRemoved}
-use Rattle.lru_disk_cache.specs.Disk.{Keeps}
-use Rattle.lru_disk_cache.proofs.Spared.{only_removed}
-use Rattle.folders.proofs.Exactly.{none_removed}
+use Rattle.listed_files.specs.Disk.{Keeps}
+use Rattle.listed_files.proofs.Spared.{only_removed}
 use Rattle.lru_disk_cache.specs.Reserved.{KeepsReserved, held_size, is_pending, without_number}
 use Rattle.lru_disk_cache.specs.Adding.{entry_path, abandoned, AbandonFails}
-use Rattle.lru_disk_cache.proofs.Fills.{on_ok, counts_ok, keeps_avoided, temp_avoids, stands_kept}
+use Rattle.listed_files.proofs.Fills.{on_ok, counts_ok, keeps_avoided, temp_avoids, stands_kept}
 use Rattle.lru_disk_cache.proofs.Stores.{closed_store}
 use Rattle.lru_disk_cache.proofs.Others.{others_at}
 use Rattle.lru_disk_cache.proofs.Reserving.{temp_found, temp_none, held_without, closed_ok}
@@ -16,7 +15,7 @@ use Rattle.lru_disk_cache.proofs.Reserving.{closed_fails}
 use Rattle.lru_disk_cache.specs.Store.{DiskInStep}
 use Rattle.lru_disk_cache.proofs.DiskSteps.{step_abandoned}
 use Rattle.lru_disk_cache.proofs.Insides.{disk_of}
-use Rattle.lru_disk_cache.specs.Disk.{KeepsSpoiled}
+use Rattle.listed_files.specs.Disk.{KeepsSpoiled}
 use Rattle.lru_disk_cache.proofs.Spoiled.{at_spoiled, fresh_temp}
 use Rattle.lru_disk_cache.proofs.cache.LruDiskCache.abandon.Goals as goal
 

@@ -1,17 +1,22 @@
-use Rattle.std.proofs.Common.{rules, ◌≡◌, ◌+◌, ◌≤◌, ◌++◌, Some, sym, ap, subst, ◌∙◌, arith}
+use Rattle.std.proofs.Common.{rules, ◌≡◌, ◌+◌, ◌≤◌, ◌++◌, Some, Result, Ok, Err, inl, sym, ap, subst, ◌∙◌}
+use Rattle.std.proofs.Common.{arith}
+use Rattle.dist_types.specs.declared.folder_fault.FolderFault.{FolderFault}
+use Rattle.folders.specs.Failures.{WhereTold}
 use Rattle.folders.specs.Files.{size_at}
 use Rattle.folders.specs.Held.{Became}
-use Rattle.lru_disk_cache.specs.Key.{is_key, temp_name}
-use Rattle.lru_disk_cache.specs.Entries.{Listed, total}
+use Rattle.listed_files.specs.Key.{is_key, temp_name}
+use Rattle.listed_files.specs.Entries.{Listed, total}
 use Rattle.lru_disk_cache.specs.Reserved.{KeepsReserved, held_size, without_number}
 use Rattle.lru_disk_cache.specs.Store.{Disk, IsStore}
-use Rattle.lru_disk_cache.specs.Adding.{HasSize}
+use Rattle.lru_disk_cache.specs.Adding.{HasSize, room_for}
+use Rattle.listed_files.specs.Told.{ToldStored, ToldSized}
+use Rattle.listed_files.proofs.Tolds.{told_sized}
 use Rattle.lru_disk_cache.proofs.Insides.{disk_of}
-use Rattle.lru_disk_cache.proofs.Fills.{temp_apart, temp_avoided}
+use Rattle.listed_files.proofs.Fills.{temp_apart, temp_avoided}
 use Rattle.lru_disk_cache.proofs.Others.{others_these}
 use Rattle.lru_disk_cache.proofs.Stores.{stored_fits, closed_store, broken_store}
 use Rattle.lru_disk_cache.proofs.DiskSteps.{step_committed}
-use Rattle.lru_disk_cache.specs.Disk.{KeepsSpoiled}
+use Rattle.listed_files.specs.Disk.{KeepsSpoiled}
 use Rattle.lru_disk_cache.proofs.Spoiled.{these_spoiled, fresh_temp, fresh_key}
 use Rattle.lru_disk_cache.proofs.cache.LruDiskCache.commit_entry.Given.{Over}
 use Rattle.lru_disk_cache.proofs.cache.LruDiskCache.commit_entry.Goals.{After-fill, After-doubt}
@@ -93,6 +98,35 @@ stays g c =
     c.in-Ok-arrival_of.ensures.path (ap is_key c.key.ensures.key ∙ c.in-Ok.ensures.key))
     c.self.invariant.stands.keys c.fill.ensures.untouched))))
 
+-- what the folder's counts tell, said of the cache as it was
+told : (g : Over) (c : After-fill g) (r : Result (Unit {0}) FolderFault)
+    → WhereTold (g.F.Folder.held c.self.inside.folder) (ToldStored r c.in-Ok-arrival_of.arrival.key c.in-Ok-arrival_of.arrival.limit
+    c.self.inside.table.entries c.fill.new.table.entries (g.F.Folder.failures c.self.inside.folder)
+    (g.F.Folder.failures c.fill.new.folder))
+    → WhereTold (g.F.Folder.held c.args.self.now.folder) (ToldSized r c.args.entry.now.key (room_for c.args.self.now.disk c.args.entry.now)
+    (HasSize c.args.self.now.disk c.args.entry.now (g.F.Folder.held c.args.self.now.folder)) c.args.self.now.disk.entries
+    c.fill.new.table.entries (g.F.Folder.failures c.args.self.now.folder)
+    (g.F.Folder.failures c.fill.new.folder))
+told g c r h = λ files told.
+    let arrival = c.in-Ok-arrival_of.arrival in let now = c.args.self.now in
+    let entries = c.fill.new.table.entries in let after = g.F.Folder.failures c.fill.new.folder in
+    let measured = c.entry_size.new.self in
+    let view = subst (λ s. WhereTold (g.F.Folder.held s.folder) (ToldStored r arrival.key arrival.limit
+    s.disk.entries entries (g.F.Folder.failures s.folder) after)) c.self.view_is h in
+    let disk = subst (λ (d : Disk). ToldStored r arrival.key arrival.limit d.entries entries
+    (g.F.Folder.failures measured.folder) after) c.entry_size.ensures.disk
+    (view files (c.entry_size.ensures.files ∙ told)) in
+    let counts = subst (λ f. ToldStored r arrival.key arrival.limit now.disk.entries entries f after)
+    (c.in-Ok.ensures.failed files told) disk in
+    told_sized c.args.entry.now.key (room_for c.args.self.now.disk c.args.entry.now)
+    (HasSize c.args.self.now.disk c.args.entry.now (g.F.Folder.held c.args.self.now.folder)) c.in-Ok.size now.disk.entries entries
+    (g.F.Folder.failures now.folder) after r c.in-Ok.ensures.size
+    (subst (λ l. ToldStored r c.args.entry.now.key l now.disk.entries entries
+    (g.F.Folder.failures now.folder) after) (c.in-Ok-arrival_of.ensures.key.2 ∙ (c.in-Ok-admit_entry.ensures.room
+    ∙ ap (λ (d : Disk). room_for d c.args.entry.now c.in-Ok.size) c.entry_size.ensures.disk))
+    (subst (λ k. ToldStored r k arrival.limit now.disk.entries entries (g.F.Folder.failures now.folder) after)
+    (c.in-Ok-arrival_of.ensures.key.0 ∙ c.key.ensures.key) counts))
+
 pub invariant_of-self : goal.invariant_of-self
 invariant_of-self g c =
     let beside : held_size (without_number c.number-number.result c.self.inside.pending) ≡ held_size
@@ -165,3 +199,17 @@ returns-in-Ok-fill-clause-in_step g c =
     step_committed c.args.self.now.disk _ (g.F.Folder.held c.args.self.now.folder)
     (g.F.Folder.held c.fill.new.folder) c.args.entry.now c.shown.ensures.stands c.shown.ensures.distinct
     c.in-Ok.ensures.pending (returns-in-Ok-fill-clause-ok g c)
+
+pub returns-in-Ok-fill-clause-failed : goal.returns-in-Ok-fill-clause-failed
+returns-in-Ok-fill-clause-failed g c =
+    told g (goal.at.returns-in-Ok-fill-clause-failed g c).After-fill (Ok (tt {0}))
+    c.in-Ok-fill.ensures.failed
+
+pub returns-clause-failed : goal.returns-clause-failed
+returns-clause-failed g c =
+    told g (goal.at.returns-clause-failed g c).After-fill (Err c.in-Err-fill.fault)
+    c.in-Err-fill.ensures.failed
+
+pub returns-in-Err-clause-failed : goal.returns-in-Err-clause-failed
+returns-in-Err-clause-failed g c = λ files told.
+    inl (ap (λ (d : Disk). d.entries) c.entry_size.ensures.disk, c.in-Err.ensures.failed files told)

@@ -1,11 +1,11 @@
 use Rattle.std.proofs.Common.{◌≡◌, ◌++◌, Some, true, false, IfOk, IfErr, OnOk, refl, sym, subst}
 use Rattle.folders.specs.Files.{size_at}
 use Rattle.folders.specs.Held.{Holds}
-use Rattle.lru_disk_cache.specs.Key.{temp_name}
+use Rattle.listed_files.specs.Key.{temp_name}
 use Rattle.lru_disk_cache.specs.Reserved.{is_pending}
 use Rattle.lru_disk_cache.specs.Adding.{HasSize, WriteFails}
 use Rattle.lru_disk_cache.proofs.Asides.{store_equal}
-use Rattle.lru_disk_cache.proofs.Fills.{on_ok, if_same}
+use Rattle.listed_files.proofs.Fills.{on_ok, if_same}
 use Rattle.lru_disk_cache.proofs.Reserving.{temp_found, temp_none, write_fails}
 use Rattle.lru_disk_cache.proofs.Insides.{disk_of}
 use Rattle.lru_disk_cache.proofs.cache.LruDiskCache.entry_size.Goals as goal

@@ -2,7 +2,7 @@ use Rattle.std.proofs.Common.{refl, sym, ap}
 use Rattle.folders.specs.Changed.{SameAt}
 use Rattle.folders.proofs.Became.{became_same}
 use Rattle.lru_disk_cache.proofs.Stores.{promoted_store}
-use Rattle.lru_disk_cache.proofs.Trims.{none_promoted}
+use Rattle.listed_files.proofs.Trims.{none_promoted}
 use Rattle.lru_disk_cache.proofs.cache.LruDiskCache.get_abs_path.Goals as goal
 
 pub returns-then-not-contains-clause-ok : goal.returns-then-not-contains-clause-ok

@@ -1,6 +1,6 @@
 use Rattle.std.proofs.Common.{rules, subst, sym, ◌∙◌}
 use Rattle.folders.specs.Held.{Lacks}
-use Rattle.lru_disk_cache.proofs.Standing.{listed_there}
+use Rattle.listed_files.proofs.Standing.{listed_there}
 use Rattle.lru_disk_cache.proofs.Stores.{promoted_store}
 use Rattle.lru_disk_cache.proofs.DiskSteps.{step_touched}
 use Rattle.lru_disk_cache.proofs.cache.LruDiskCache.get_file.Goals as goal

@@ -1,15 +1,18 @@
-use Rattle.std.proofs.Common.{rules, ◌+◌, ◌≤◌, ◌++◌, ◌∙◌, ap, subst, arith}
+use Rattle.std.proofs.Common.{rules, ◌+◌, ◌≤◌, ◌++◌, ◌∙◌, Result, Ok, Err, length, ap, subst, arith}
+use Rattle.dist_types.specs.declared.folder_fault.FolderFault.{FolderFault}
+use Rattle.folders.specs.Failures.{WhereTold}
 use Rattle.folders.specs.Held.{Became}
 use Rattle.lru_disk_cache.specs.Reserved.{held_size, KeepsReserved}
-use Rattle.lru_disk_cache.specs.Store.{IsStore}
+use Rattle.lru_disk_cache.specs.Store.{IsStore, room_beside}
+use Rattle.listed_files.specs.Told.{ToldStored}
 use Rattle.lru_disk_cache.proofs.Reserving.{insert_reserved}
 use Rattle.lru_disk_cache.proofs.Stores.{insert_store, stored_exact}
 use Rattle.lru_disk_cache.proofs.DiskSteps.{step_stored}
 use Rattle.lru_disk_cache.proofs.Insides.{disk_of}
 use Rattle.folders.specs.Changed.{RemovedOrSame}
-use Rattle.lru_disk_cache.specs.Disk.{IsBeside}
-use Rattle.lru_disk_cache.proofs.Spared.{beside_temp}
-use Rattle.lru_disk_cache.specs.Disk.{ButInsert}
+use Rattle.listed_files.specs.Disk.{IsBeside}
+use Rattle.listed_files.proofs.Spared.{beside_temp}
+use Rattle.listed_files.specs.Disk.{ButInsert}
 use Rattle.lru_disk_cache.proofs.Spoiled.{these_inserted}
 use Rattle.lru_disk_cache.proofs.cache.LruDiskCache.insert_bytes.Given.{Over}
 use Rattle.lru_disk_cache.proofs.cache.LruDiskCache.insert_bytes.Goals.{After-store}
@@ -76,6 +79,26 @@ stays g c =
     c.in-Ok-insert_arrival.ensures.path c.in-Ok.ensures.key c.self.invariant.stands.keys
     c.store.ensures.untouched)
 
+-- what the folder's counts tell, said of the cache as it was
+told : (g : Over) (c : After-store g) (r : Result (Unit {0}) FolderFault)
+    → WhereTold (g.F.Folder.held c.self.inside.folder) (ToldStored r c.in-Ok-insert_arrival.arrival.key
+    c.in-Ok-insert_arrival.arrival.limit c.self.inside.table.entries c.store.new.table.entries
+    (g.F.Folder.failures c.self.inside.folder) (g.F.Folder.failures c.store.new.folder))
+    → WhereTold (g.F.Folder.held c.args.self.now.folder) (ToldStored r c.args.key.now
+    (room_beside c.args.self.now.disk (length c.args.bytes.now)) c.args.self.now.disk.entries
+    c.store.new.table.entries (g.F.Folder.failures c.args.self.now.folder)
+    (g.F.Folder.failures c.store.new.folder))
+told g c r h =
+    let arrival = c.in-Ok-insert_arrival.arrival in let after = g.F.Folder.failures c.store.new.folder in
+    let now = c.args.self.now in
+    subst (λ l. WhereTold (g.F.Folder.held now.folder) (ToldStored r c.args.key.now l now.disk.entries
+    c.store.new.table.entries (g.F.Folder.failures now.folder) after))
+    (c.in-Ok-insert_arrival.ensures.key.2 ∙ c.room_beside-limit.ensures)
+    (subst (λ k. WhereTold (g.F.Folder.held now.folder) (ToldStored r k arrival.limit now.disk.entries
+    c.store.new.table.entries (g.F.Folder.failures now.folder) after)) c.in-Ok-insert_arrival.ensures.key.0
+    (subst (λ s. WhereTold (g.F.Folder.held s.folder) (ToldStored r arrival.key arrival.limit s.disk.entries
+    c.store.new.table.entries (g.F.Folder.failures s.folder) after)) c.self.view_is h))
+
 pub invariant_of-self : goal.invariant_of-self
 invariant_of-self g c = c.self.invariant
 
@@ -131,3 +154,13 @@ returns-in-Ok-store-clause-in_step g c =
     (g.F.Folder.held c.store.new.folder) c.args.key.now c.args.bytes.now
     c.shown.ensures.stands.stands.keys c.in-Ok.ensures.key c.shown.ensures.distinct
     (returns-in-Ok-store-clause-ok g c) (returns-in-Ok-store-clause-exact g c)
+
+pub returns-in-Ok-store-clause-failed : goal.returns-in-Ok-store-clause-failed
+returns-in-Ok-store-clause-failed g c =
+    told g (goal.at.returns-in-Ok-store-clause-failed g c).After-store (Ok (tt {0}))
+    c.in-Ok-store.ensures.failed
+
+pub returns-clause-failed : goal.returns-clause-failed
+returns-clause-failed g c =
+    told g (goal.at.returns-clause-failed g c).After-store (Err c.in-Err-store.fault)
+    c.in-Err-store.ensures.failed

@@ -1,12 +1,13 @@
 use Rattle.std.proofs.Common.{◌≡◌, ◌++◌, ◌∙◌, length, Some, Ok, refl, sym, subst}
 use Rattle.folders.specs.Files.{file_at}
 use Rattle.folders.specs.Held.{Holds}
-use Rattle.lru_disk_cache.specs.Store.{inserted, insert_verdict}
-use Rattle.lru_disk_cache.specs.Moving.{Wrote}
+use Rattle.lru_disk_cache.specs.Store.{inserted, insert_verdict, room_beside}
+use Rattle.lru_disk_cache.specs.Moving.{Wrote, WroteSize}
+use Rattle.listed_files.proofs.Tolds.{told_sized}
 use Rattle.lru_disk_cache.proofs.Moves.{with_failed, with_fails, with_ok}
 use Rattle.lru_disk_cache.proofs.Reserving.{none_reserved}
-use Rattle.lru_disk_cache.proofs.Standing.{none_lost}
-use Rattle.lru_disk_cache.proofs.Whole.{closure_whole}
+use Rattle.listed_files.proofs.Standing.{none_lost}
+use Rattle.listed_files.proofs.Whole.{closure_whole}
 use Rattle.lru_disk_cache.proofs.Spoiled.{none_inserted}
 use Rattle.lru_disk_cache.proofs.Counted.{may_spoil}
 use Rattle.lru_disk_cache.proofs.cache.LruDiskCache.insert_with.Goals as goal
@@ -75,3 +76,13 @@ returns-in-Err-clause-spoils g c =
 
 pub returns-then-not-is_key-clause-spoils : goal.returns-then-not-is_key-clause-spoils
 returns-then-not-is_key-clause-spoils g c = (refl, refl)
+
+pub returns-in-Ok-clause-failed : goal.returns-in-Ok-clause-failed
+returns-in-Ok-clause-failed g c = λ files told.
+    let wrote = subst (Wrote g.W.FnOnce (λ v. v.items) c.args.with (Ok (tt {0})))
+    (sym c.deref.ensures.value) c.in-Ok.ensures.ok in
+    told_sized c.args.key.now (room_beside c.args.self.now.disk)
+    (WroteSize (Wrote g.W.FnOnce (λ v. v.items) c.args.with)) (length c.deref.result.now)
+    c.args.self.now.disk.entries c.insert_bytes.new.self.disk.entries
+    (g.F.Folder.failures c.args.self.now.folder) (g.F.Folder.failures c.insert_bytes.new.self.folder)
+    c.insert_bytes.result (c.deref.result.now, wrote, refl) (c.insert_bytes.ensures.failed files told)

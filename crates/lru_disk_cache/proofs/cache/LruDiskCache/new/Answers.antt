@@ -1,14 +1,7 @@
--- That the sizes fit is what the type of the opened table says: of its fields, and of the list's in them.
-use Rattle.std.proofs.Common.{rules, ℕ, List, ◌≤◌, subst}
-use denote.Laws.{Is}
-use denote.Enum.Declared as declared
-use Rattle.std.specs.contracts.result.Result as result
-use Rattle.lru_metered.specs.Metered.{Metered}
-use Rattle.lru_disk_cache.specs.contracts.table.Table as table
-use Rattle.folders.specs.contracts.fault.FolderFault as fault
-use Rattle.lru_disk_cache.specs.Entries.{Listed, total}
-use Rattle.lru_disk_cache.specs.Opened.{KeepsOpened}
-use Rattle.lru_disk_cache.proofs.Keeping.{none_opened}
+use Rattle.std.proofs.Common.{rules, ◌≤◌, subst}
+use Rattle.listed_files.specs.Entries.{total}
+use Rattle.listed_files.specs.Opened.{KeepsOpened}
+use Rattle.listed_files.proofs.Keeping.{none_opened}
 use Rattle.folders.proofs.Removals.{none_spared}
 use Rattle.folders.specs.Files.{front}
 use Rattle.folders.specs.Held.{Became}
@@ -17,13 +10,7 @@ use Rattle.lru_disk_cache.proofs.cache.LruDiskCache.new.Goals as goal
 
 pub invariant_of-result : goal.invariant_of-result
 invariant_of-result g c =
-    let opened = declared.row (result.the_type table.the_row fault.the_row) in
-    let told = subst (λ r. Is opened r c.open.type_inv.0) c.in-Ok-open.is c.open.type_inv.1 in
-    let of_table = told.1.1.1.1.0 in
-    let of_list = of_table.1.0.1.1.0 in
-    let list_fits = subst (λ (m : Metered (List ℕ) ℕ _). total m.pairs ≤ m.capacity) of_list.0.1.0 of_list.0.1.1.1 in
-    let fits : total c.in-Ok-open.table.entries ≤ c.in-Ok-open.table.capacity =
-    subst (λ (t : Listed). total t.entries ≤ t.capacity) of_table.0.1.0 list_fits in
+    let fits : total c.in-Ok-open.table.entries ≤ c.in-Ok-open.table.capacity = c.size-size.ensures.valid.fits in
     record {
       stands = search rules;
       root = search rules;

@@ -1,16 +1,16 @@
 use Rattle.std.proofs.Common.{rules, ◌+◌, ◌≤◌, true, sym, ap, subst, ◌∙◌, arith}
 use Rattle.folders.specs.Held.{Became}
-use Rattle.lru_disk_cache.specs.Key.{is_key}
-use Rattle.lru_disk_cache.specs.Entries.{total}
+use Rattle.listed_files.specs.Key.{is_key}
+use Rattle.listed_files.specs.Entries.{total}
 use Rattle.lru_disk_cache.specs.Reserved.{KeepsReserved, held_size}
 use Rattle.lru_disk_cache.specs.Store.{IsStore}
 use Rattle.lru_disk_cache.proofs.Reserving.{temp_reserved}
 use Rattle.lru_disk_cache.proofs.Stores.{disk_of, announced_store, prepared_store}
 use Rattle.lru_disk_cache.proofs.DiskSteps.{step_prepared}
 use Rattle.folders.specs.Changed.{RemovedOrSame}
-use Rattle.lru_disk_cache.specs.Disk.{IsNoTemp}
-use Rattle.lru_disk_cache.proofs.Spared.{but_temps}
-use Rattle.lru_disk_cache.specs.Disk.{KeepsSpoiled}
+use Rattle.listed_files.specs.Disk.{IsNoTemp}
+use Rattle.listed_files.proofs.Spared.{but_temps}
+use Rattle.listed_files.specs.Disk.{KeepsSpoiled}
 use Rattle.lru_disk_cache.proofs.Spoiled.{these_spoiled, fresh_temp}
 use Rattle.lru_disk_cache.proofs.cache.LruDiskCache.prepare_add.Given.{Over}
 use Rattle.lru_disk_cache.proofs.cache.LruDiskCache.prepare_add.Goals.{After-announce}

@@ -1,19 +1,19 @@
 use Rattle.std.proofs.Common.{rules, ◌≡◌, ◌++◌, true, IsSome, refl, ap, sym, subst, ◌∙◌}
 use Rattle.folders.specs.Held.{Became}
-use Rattle.lru_disk_cache.specs.Disk.{Keeps, KeepsSpoiled}
-use Rattle.lru_disk_cache.specs.Key.{is_key}
+use Rattle.listed_files.specs.Disk.{Keeps, KeepsSpoiled}
+use Rattle.listed_files.specs.Key.{is_key}
 use Rattle.lru_disk_cache.specs.Reserved.{KeepsReserved}
 use Rattle.lru_disk_cache.specs.Store.{IsStore}
 use Rattle.lru_disk_cache.proofs.Insides.{disk_of}
-use Rattle.lru_disk_cache.proofs.Standing.{keeps_absent}
+use Rattle.listed_files.proofs.Standing.{keeps_absent}
 use Rattle.lru_disk_cache.proofs.Reserving.{listed_key, key_reserved}
 use Rattle.lru_disk_cache.proofs.Stores.{removed_store}
-use Rattle.lru_disk_cache.proofs.Trims.{none_out}
+use Rattle.listed_files.proofs.Trims.{none_out}
 use Rattle.std.specs.Map.{lookup}
 use Rattle.std.specs.Str.{bytes_eq}
 use Rattle.lru_disk_cache.proofs.DiskSteps.{step_removed}
 use Rattle.folders.specs.Changed.{OnlyRemoved}
-use Rattle.lru_disk_cache.proofs.Spared.{only_removed}
+use Rattle.listed_files.proofs.Spared.{only_removed}
 use Rattle.lru_disk_cache.proofs.Spoiled.{at_spoiled, fresh_key}
 use Rattle.lru_disk_cache.proofs.cache.LruDiskCache.remove.Given.{Over}
 use Rattle.lru_disk_cache.proofs.cache.LruDiskCache.remove.Goals.{After-remove_file}

@@ -2,16 +2,16 @@ use Rattle.std.proofs.Common.{◌≡◌, true, false, IfErr, OnOk, OnErr, refl, 
 use Rattle.folders.specs.Files.{appended, PartAppended}
 use Rattle.folders.specs.Held.{Holds, Became, BecameBy, Lacks}
 use Rattle.folders.specs.Changed.{ButAt}
-use Rattle.lru_disk_cache.specs.Disk.{Keeps}
+use Rattle.listed_files.specs.Disk.{Keeps}
 use Rattle.lru_disk_cache.specs.Reserved.{KeepsReserved, is_pending, without_number}
 use Rattle.lru_disk_cache.specs.Adding.{entry_path, WriteFails}
-use Rattle.lru_disk_cache.proofs.Fills.{on_ok, keeps_avoided, temp_avoids}
+use Rattle.listed_files.proofs.Fills.{on_ok, keeps_avoided, temp_avoids}
 use Rattle.lru_disk_cache.proofs.Reserving.{temp_found, temp_none, write_fails, added_store}
 use Rattle.lru_disk_cache.proofs.Others.{others_at}
 use Rattle.lru_disk_cache.specs.Store.{DiskInStep}
 use Rattle.lru_disk_cache.proofs.DiskSteps.{step_appended}
 use Rattle.lru_disk_cache.proofs.Insides.{disk_of}
-use Rattle.lru_disk_cache.specs.Disk.{KeepsSpoiled}
+use Rattle.listed_files.specs.Disk.{KeepsSpoiled}
 use Rattle.lru_disk_cache.proofs.Spoiled.{at_spoiled, fresh_temp}
 use Rattle.lru_disk_cache.proofs.cache.LruDiskCache.write_entry.Goals as goal
 

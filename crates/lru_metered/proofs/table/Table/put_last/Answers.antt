@@ -1,9 +1,15 @@
-use Rattle.std.proofs.Common.{◌≡◌, ℕ, [], ◌∷◌, ◌++◌, Some, IfNone, IfOk, OnOk, sym, ap, ◌∙◌, subst}
+use Rattle.std.proofs.Common.{◌≡◌, ℕ, [], ◌∷◌, ◌++◌, Some, IfNone, IfOk, OnOk, OnErr, Result, Ok, Err, sym, ap, ◌∙◌}
+use Rattle.std.proofs.Common.{subst}
 use Rattle.std.specs.Map.{lookup, remove_entry}
 use Rattle.lru_metered.specs.Index.{hash_of, pairs_at, Matches, IsIndexed}
 use Rattle.lru_metered.proofs.ListingLemmas.{absent-listed, matches-pair}
 use Rattle.lru_metered.proofs.TableLemmas.{table-renewed, pairs-renewed, value-found}
 use Rattle.lru_metered.proofs.table.Table.put_last.Goals as goal
+
+-- what holds anyway holds of an error
+on_err : {T E P : Type 0} (result : Result T E) → P → OnErr result P
+on_err (Ok x) p = tt
+on_err (Err e) p = p
 
 pub find-requires : goal.find-requires
 find-requires g c =
@@ -71,3 +77,12 @@ returns-clause-old g c =
     let p = matches-pair (eq k) (pairs_at nodes.items) c.in-Some.found.at c.in-Some.ensures.matches in
     rw (← c.self.view_is) (ap (λ v. Some v) (c.renew.ensures.value p.0 p.1)
     ∙ sym (value-found eq hash law nodes heads t k c.in-Some.found.at c.in-Some.ensures.matches p.0 p.1))
+
+pub returns-in_default-clause-absent : goal.returns-in_default-clause-absent
+returns-in_default-clause-absent g c =
+    let absent = absent-listed (g.K.PartialEq.eq c.args.key) c.self.inside.nodes
+    (subst (λ o. IfNone o ((x : ℕ)
+    → ¬ (Matches (g.K.PartialEq.eq c.args.key) (pairs_at c.self.inside.nodes.items) x))) c.in_default.is
+    c.find.ensures.absent) in
+    let none = ap (lookup (g.K.PartialEq.eq c.args.key)) (sym c.self.view_is) ∙ absent.value in
+    on_err c.put_new.result none

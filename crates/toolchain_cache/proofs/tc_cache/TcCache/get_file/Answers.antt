@@ -5,7 +5,7 @@ use Rattle.std.specs.Str.{bytes_eq}
 use Rattle.folders.specs.Files.{touched}
 use Rattle.folders.specs.Held.{Holds, BecameBy}
 use Rattle.dist_types.specs.declared.cache_error.Error.TheVariants.{Memory as NoMemory}
-use Rattle.lru_disk_cache.specs.Entries.{total, promoted_key}
+use Rattle.listed_files.specs.Entries.{total, promoted_key}
 use Rattle.toolchain_cache.specs.Archives.{id_of, archive_path, IsInStep}
 use Rattle.toolchain_cache.specs.Archiving.{FindFails}
 use Rattle.toolchain_cache.specs.Keyed.{unkeyed, IsKeyed}

@@ -1,10 +1,10 @@
-use Rattle.std.proofs.Common.{◌≡◌, ◌∙◌, ◌≤◌, length, nat_le, true, Ok, IfErr, OnOk, OnErr, inr, refl, sym, subst}
+use Rattle.std.proofs.Common.{◌≡◌, ◌∙◌, ◌-◌, ◌≤◌, length, nat_le, true, Ok, IfErr, OnOk, OnErr, inr, refl, sym, subst}
 use Rattle.std.proofs.Common.{arith}
 use Rattle.std.specs.Map.{keys_of}
 use Rattle.std.specs.List.{IsDistinct}
 use Rattle.std.specs.Str.{bytes_eq}
 use Rattle.folders.specs.Held.{Became}
-use Rattle.lru_disk_cache.specs.Entries.{total}
+use Rattle.listed_files.specs.Entries.{total}
 use Rattle.toolchain_cache.specs.Archives.{id_of, IsInStep}
 use Rattle.toolchain_cache.specs.Archiving.{with_archive, archive_verdict, StoreFails}
 use Rattle.toolchain_cache.specs.Keyed.{unkeyed, IsKeyed}
@@ -12,10 +12,12 @@ use Rattle.toolchain_cache.proofs.Unkeyed.{keyed_store}
 use Rattle.std.proofs.lemmas.Slice.Eq.{bytes_eq-Decides}
 use Rattle.lru_disk_cache.specs.Store.{insert_verdict}
 use Rattle.toolchain_cache.proofs.TcSteps.{stored_keyed, stored_ok, stored_fails, stored_in_step}
-use Rattle.toolchain_cache.proofs.TcSteps.{archive_admitted, insert_admitted}
+use Rattle.toolchain_cache.proofs.TcSteps.{archive_admitted, insert_admitted, told_by}
+use Rattle.folders.specs.Failures.{WhereTold}
+use Rattle.listed_files.specs.Told.{ToldStored}
 use Rattle.toolchain_cache.specs.Archiving.{dropped_for}
 use Rattle.folders.specs.Files.{front}
-use Rattle.lru_disk_cache.specs.Disk.{ButInsert}
+use Rattle.listed_files.specs.Disk.{ButInsert}
 use Rattle.toolchain_cache.specs.Stored.{KeepsArchives, PlacesArchive, staying_for}
 use Rattle.toolchain_cache.proofs.SpoiledArchives.{keyed_inserted}
 use Rattle.lru_disk_cache.specs.Spoiling.{MaySpoil}
@@ -165,3 +167,14 @@ returns-then-not-can_store-clause-spoils g c = (refl, refl)
 
 pub returns-in_default-clause-spoils : goal.returns-in_default-clause-spoils
 returns-in_default-clause-spoils g c = inr (refl, refl)
+
+pub returns-clause-failed : goal.returns-clause-failed
+returns-clause-failed g c =
+    subst (λ s. WhereTold (g.F.Folder.held s.folder) (ToldStored c.insert_bytes-answer.result c.args.tc.now
+    (s.capacity - length c.args.bytes.now) s.archives (unkeyed c.insert_bytes-answer.new.self.disk.entries)
+    (g.F.Folder.failures s.folder) (g.F.Folder.failures c.insert_bytes-answer.new.self.folder)))
+    c.self.view_is (λ files told. told_by c.args.tc.now c.get.result.now c.args.bytes.now
+    c.self.inside.cache.disk c.insert_bytes-answer.new.self.disk
+    (g.F.Folder.failures c.self.inside.cache.folder) (g.F.Folder.failures c.insert_bytes-answer.new.self.folder)
+    c.insert_bytes-answer.result c.key_of.ensures.id (c.get.ensures.text ∙ c.in-Ok.ensures.key)
+    c.self.invariant.keys c.self.invariant.none (c.insert_bytes-answer.ensures.failed files told))

@@ -1,14 +1,15 @@
-use Rattle.std.proofs.Common.{◌≡◌, length, Some, Ok, sym, subst}
+use Rattle.std.proofs.Common.{◌≡◌, ◌-◌, length, Some, Ok, refl, sym, subst}
 use Rattle.folders.specs.Files.{file_at}
 use Rattle.folders.specs.Held.{Holds, Became}
 use Rattle.toolchain_cache.specs.Archives.{archive_path}
 use Rattle.toolchain_cache.specs.Archiving.{archive_verdict, with_archive, dropped_for}
 use Rattle.toolchain_cache.specs.Stored.{KeepsArchives, PlacesArchive, staying_for}
 use Rattle.toolchain_cache.proofs.StoredLemmas.{all_ok}
-use Rattle.lru_disk_cache.specs.Moving.{Wrote}
+use Rattle.lru_disk_cache.specs.Moving.{Wrote, WroteSize}
+use Rattle.listed_files.proofs.Tolds.{told_sized}
 use Rattle.toolchain_cache.proofs.WithMoves.{store_failed, store_fails}
 use Rattle.lru_disk_cache.proofs.Moves.{with_ok}
-use Rattle.lru_disk_cache.proofs.Whole.{closure_whole}
+use Rattle.listed_files.proofs.Whole.{closure_whole}
 use Rattle.toolchain_cache.proofs.tc_cache.TcCache.insert_with.Goals as goal
 
 pub returns-in-Ok-clause-ok : goal.returns-in-Ok-clause-ok
@@ -58,3 +59,13 @@ returns-in-Err-clause-spoils g c =
     (store_failed (Wrote g.W.FnOnce (λ v. v.items) c.args.with) c.args.self.now.capacity c.args.tc.now
     c.args.self.now.archives c.in-Err.error c.args.self.now.spoiled
     (g.F.Folder.held c.args.self.now.folder) c.in-Err.ensures.fails).1
+
+pub returns-in-Ok-clause-failed : goal.returns-in-Ok-clause-failed
+returns-in-Ok-clause-failed g c = λ files told.
+    let wrote = subst (Wrote g.W.FnOnce (λ v. v.items) c.args.with (Ok (tt {0})))
+    (sym c.deref.ensures.value) c.in-Ok.ensures.ok in
+    told_sized c.args.tc.now (λ n. c.args.self.now.capacity - n)
+    (WroteSize (Wrote g.W.FnOnce (λ v. v.items) c.args.with)) (length c.deref.result.now)
+    c.args.self.now.archives c.insert_bytes.new.self.archives (g.F.Folder.failures c.args.self.now.folder)
+    (g.F.Folder.failures c.insert_bytes.new.self.folder) c.insert_bytes.result
+    (c.deref.result.now, wrote, refl) (c.insert_bytes.ensures.failed files told)

@@ -1,6 +1,6 @@
 use Rattle.std.proofs.Common.{◌≡◌, ◌≤◌, ap, subst, arith}
 use Rattle.folders.specs.Held.{Lacks}
-use Rattle.lru_disk_cache.specs.Entries.{total}
+use Rattle.listed_files.specs.Entries.{total}
 use Rattle.lru_disk_cache.specs.Store.{Disk}
 use Rattle.toolchain_cache.specs.Archives.{IsInStep}
 use Rattle.toolchain_cache.specs.Keyed.{unkeyed, IsKeyed}

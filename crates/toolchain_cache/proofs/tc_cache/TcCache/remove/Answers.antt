@@ -6,8 +6,8 @@ use Rattle.folders.specs.Changed.{ButAt}
 use Rattle.folders.specs.Files.{front, without}
 use Rattle.folders.specs.Held.{Holds, Became, BecameBy, Lacks}
 use Rattle.dist_types.specs.declared.cache_error.Error.TheVariants.{Memory as NoMemory}
-use Rattle.lru_disk_cache.specs.Entries.{total}
-use Rattle.lru_disk_cache.specs.Disk.{without_key, KeepsSpoiled}
+use Rattle.listed_files.specs.Entries.{total}
+use Rattle.listed_files.specs.Disk.{without_key, KeepsSpoiled}
 use Rattle.toolchain_cache.specs.Archives.{archive_path, IsInStep}
 use Rattle.toolchain_cache.specs.Archiving.{DropFails}
 use Rattle.toolchain_cache.specs.Keyed.{unkeyed, IsKeyed}

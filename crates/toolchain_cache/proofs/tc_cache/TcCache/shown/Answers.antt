@@ -1,5 +1,5 @@
 use Rattle.std.proofs.Common.{◌≤◌, subst, arith}
-use Rattle.lru_disk_cache.specs.Entries.{total}
+use Rattle.listed_files.specs.Entries.{total}
 use Rattle.toolchain_cache.specs.Archives.{IsArchiveStore}
 use Rattle.toolchain_cache.proofs.Unkeyed.{keyed_store}
 use Rattle.toolchain_cache.proofs.tc_cache.TcCache.shown.Goals as goal
